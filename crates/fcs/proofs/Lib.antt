@@ -1,0 +1,6 @@
+pub mod Xor
+pub mod Linear
+pub mod Halves
+pub mod Joined
+pub mod Turns
+pub mod Rule

@@ -1,0 +1,398 @@
+// One PD subscription: its record, and its steps by value.
+use address::SenderRange;
+use timing::Timing;
+use topography::TopoCounts;
+ghost use mathlib.Core.Path.{_≡_};
+ghost use Prim.Native.Nat.{_+_};
+ghost use lib.ListN.{length};
+ghost use Rattle.subscription.specs.Record.{matches, unsound, equal, forgotten, forget, remembered, fresh, freeRecord, grantedRecord, recordWants, recordTakes, recordTaken, stateOf, recordDue, recordMarked, substitutes};
+ghost use Rattle.subscription.specs.Step.{one, Room, Steps, storedAt, shownAt};
+
+// Which telegrams a subscription is for: a ComId, a range of senders, a destination (0: any).
+#[repr(C)]
+pub struct Filter {
+    pub com_id: u32,
+    pub senders: SenderRange,
+    pub destination: u32,
+}
+
+// The sender and counter last taken; held is false where nothing was taken since subscribing or since a timeout.
+#[repr(C)]
+pub struct LastTaken {
+    pub held: bool,
+    pub sender: u32,
+    pub counter: u32,
+}
+
+// A slot of the subscription table. Behaviour: 0 zero, 1 keep, any other substitute. State: 0 never received, 1 valid, any
+// other timed out.
+#[repr(C)]
+pub struct Subscription {
+    pub used: bool,
+    pub filter: Filter,
+    pub timing: Timing,
+    pub behaviour: u8,
+    pub state: u8,
+    pub last: LastTaken,
+    pub length: u32,
+}
+
+// What comes with an arriving telegram: sender, destination, time, and the local counters.
+#[repr(C)]
+pub struct Arrival {
+    pub sender: u32,
+    pub destination: u32,
+    pub time: u64,
+    pub local: TopoCounts,
+}
+
+// A telegram that passed checks 2 to 7, as a slot sees it; its dataset stands beside.
+pub struct Heard {
+    pub com_id: u32,
+    pub sender: u32,
+    pub destination: u32,
+    pub counter: u32,
+    pub time: u64,
+}
+
+// What reading a slot answers of it.
+pub enum State {
+    NeverReceived,
+    Valid,
+    TimedOut,
+}
+
+// How many slots a telegram matched, and how many took it or were marked.
+pub struct Tally {
+    pub matched: usize,
+    pub changed: usize,
+}
+
+// What happens at every slot of a table: a telegram arrives, or the clock is looked at.
+pub enum Event {
+    Telegram(Heard),
+    Clock(u64),
+}
+
+// A record after an event, and the tally carried on.
+pub struct Stepped {
+    pub slot: Subscription,
+    pub tally: Tally,
+}
+
+// The range's end is not 0 and below its start: refusal 11.
+pub fn is_unsound(f: Filter) -> bool
+    ensures { λ r. ⌜ r ≡ unsound f ⌝ }
+{
+    address::is_reversed(f.senders)
+}
+
+// A filter matches a telegram.
+pub fn is_match(f: Filter, h: Heard) -> bool
+    ensures { λ r. ⌜ r ≡ matches f h ⌝ }
+{
+    if f.com_id == h.com_id {
+        if address::admit(f.senders, h.sender) {
+            if f.destination == 0 {
+                return true;
+            }
+            return f.destination == h.destination;
+        }
+    }
+    false
+}
+
+// Two filters are equal in every field: refusal 12.
+pub fn are_equal(f: Filter, g: Filter) -> bool
+    ensures { λ r. ⌜ r ≡ equal f g ⌝ }
+{
+    if f.com_id == g.com_id {
+        if address::are_same(f.senders, g.senders) {
+            return f.destination == g.destination;
+        }
+    }
+    false
+}
+
+impl LastTaken {
+    // Nothing taken since subscribing or since a timeout.
+    pub fn none() -> Self
+        ensures { λ r. ⌜ r ≡ forgotten ⌝ }
+    {
+        Self {
+            held: false,
+            sender: 0,
+            counter: 0,
+        }
+    }
+
+    // A timeout forgets.
+    pub fn forget(self) -> Self
+        ensures { λ r. ⌜ r ≡ forget self ⌝ }
+    {
+        Self::none()
+    }
+
+    // The telegram's sender and counter are taken.
+    pub fn take(h: Heard) -> Self
+        ensures { λ r. ⌜ r ≡ remembered h ⌝ }
+    {
+        Self {
+            held: true,
+            sender: h.sender,
+            counter: h.counter,
+        }
+    }
+
+    // A telegram is fresh after the last one taken.
+    pub fn is_fresh(self, h: Heard) -> bool
+        ensures { λ r. ⌜ r ≡ fresh self h ⌝ }
+    {
+        if self.held {
+            if self.sender == h.sender {
+                let ahead = std::num::wrapping_sub_u32(h.counter, self.counter);
+                if ahead < 1 {
+                    return false;
+                }
+                return ahead <= 0x7FFF_FFFF;
+            }
+        }
+        true
+    }
+}
+
+// A record that is free.
+pub fn free() -> Subscription
+    ensures { λ r. ⌜ r ≡ freeRecord ⌝ }
+{
+    Subscription {
+        used: false,
+        filter: Filter {
+            com_id: 0,
+            senders: SenderRange { start: 0, end: 0 },
+            destination: 0,
+        },
+        timing: Timing {
+            start: 0,
+            timeout: 0,
+        },
+        behaviour: 0,
+        state: 0,
+        last: LastTaken::none(),
+        length: 0,
+    }
+}
+
+// A record just granted: nothing received, supervision started.
+pub fn subscribe(f: Filter, timeout: u32, behaviour: u8, time: u64) -> Subscription
+    ensures { λ r. ⌜ r ≡ grantedRecord f timeout behaviour time ⌝ }
+{
+    Subscription {
+        used: true,
+        filter: f,
+        timing: Timing {
+            start: time,
+            timeout: timeout,
+        },
+        behaviour: behaviour,
+        state: 0,
+        last: LastTaken::none(),
+        length: 0,
+    }
+}
+
+// The slot is in use and its filter matches.
+pub fn is_wanted(r: Subscription, h: Heard) -> bool
+    ensures { λ b. ⌜ b ≡ recordWants h r ⌝ }
+{
+    if r.used {
+        let f = r.filter;
+        return is_match(f, h);
+    }
+    false
+}
+
+// The slot takes the telegram: it is fresh there.
+pub fn is_taken(r: Subscription, h: Heard) -> bool
+    ensures { λ b. ⌜ b ≡ recordTakes h r ⌝ }
+{
+    if is_wanted(r, h) {
+        let l = r.last;
+        return l.is_fresh(h);
+    }
+    false
+}
+
+// The record after taking a telegram with a dataset of n octets.
+pub fn take(r: Subscription, h: Heard, n: u32) -> Subscription
+    ensures { λ q. ⌜ q ≡ recordTaken h n r ⌝ }
+{
+    let f = r.filter;
+    let t = r.timing;
+    Subscription {
+        used: r.used,
+        filter: f,
+        timing: Timing {
+            start: h.time,
+            timeout: t.timeout,
+        },
+        behaviour: r.behaviour,
+        state: 1,
+        last: LastTaken::take(h),
+        length: n,
+    }
+}
+
+// The slot is in use, not yet marked, and its time is up.
+pub fn is_due(r: Subscription, time: u64) -> bool
+    ensures { λ b. ⌜ b ≡ recordDue time r ⌝ }
+{
+    if r.used {
+        if 1 < r.state {
+            return false;
+        }
+        let t = r.timing;
+        return timing::is_up(t, time);
+    }
+    false
+}
+
+// The record after marking: the counter is forgotten, stored length and start stay.
+pub fn mark(r: Subscription) -> Subscription
+    ensures { λ q. ⌜ q ≡ recordMarked r ⌝ }
+{
+    let f = r.filter;
+    let t = r.timing;
+    let l = r.last;
+    Subscription {
+        used: r.used,
+        filter: f,
+        timing: t,
+        behaviour: r.behaviour,
+        state: 2,
+        last: l.forget(),
+        length: r.length,
+    }
+}
+
+// What reading answers of a slot.
+pub fn state_of(r: Subscription) -> State
+    ensures { λ q. ⌜ q ≡ stateOf (r .state) ⌝ }
+{
+    if r.state == 0 {
+        return State::NeverReceived;
+    }
+    if r.state == 1 {
+        return State::Valid;
+    }
+    State::TimedOut
+}
+
+// Reading shows the substitute set: not valid, and behaviour substitute.
+pub fn is_substituted(r: Subscription) -> bool
+    ensures { λ b. ⌜ b ≡ substitutes r ⌝ }
+{
+    if r.state == 1 {
+        return false;
+    }
+    1 < r.behaviour
+}
+
+// The n octets of slot k's part of a store; nothing where the store has no such part.
+fn stored(store: &[u8], k: usize, n: u32) -> &[u8]
+    ensures { λ v. ⌜ now v ≡ storedAt k n (now (store .entry)) ⌝ }
+{
+    if store.len() / 1432 < k {
+        return &store[..0];
+    }
+    let from = k * 1432;
+    let m = n as usize;
+    if store.len() - from < m {
+        return &store[..0];
+    }
+    let to = from + m;
+    &store[from..to]
+}
+
+// What reading slot k shows: the substitute set whole, or the first stored-length octets of its part.
+pub fn show<'a>(r: Subscription, k: usize, store: &'a [u8], substitute: &'a [u8]) -> &'a [u8]
+    ensures { λ v. ⌜ now v ≡ shownAt r k (now (store .entry)) (now (substitute .entry)) ⌝ }
+{
+    if is_substituted(r) {
+        return substitute;
+    }
+    stored(store, k, r.length)
+}
+
+// The tally with one more slot that was reached, and one more that changed.
+fn count(t: Tally, reached: bool, changed: bool) -> Tally
+    requires { ⌜ Room 1 t ⌝ }
+    ensures { λ r. ⌜ r ≡ record { matched = t .matched + one reached; changed = t .changed + one changed } ⌝ }
+{
+    Tally {
+        matched: t.matched + reached as usize,
+        changed: t.changed + changed as usize,
+    }
+}
+
+// A telegram at one slot: freshness is known before an octet is copied.
+fn on_telegram(r: Subscription, t: Tally, h: Heard, part: &mut [u8], dataset: &[u8]) -> Stepped
+    requires { ⌜ Room 1 t ⌝ }
+    requires { ⌜ length (now part) ≡ 1432 ⌝ }
+    ensures { λ s. ⌜ Steps (Event.Telegram h) (now (dataset .entry)) r t (now (part .entry)) s (now (part .exit)) ⌝ }
+{
+    let reached = is_wanted(r, h);
+    if 1432 < dataset.len() {
+        return Stepped {
+            slot: r,
+            tally: count(t, reached, false),
+        };
+    }
+    if is_taken(r, h) {
+        octets::copy_into(part, 0, dataset);
+        return Stepped {
+            slot: take(r, h, dataset.len() as u32),
+            tally: count(t, reached, true),
+        };
+    }
+    Stepped {
+        slot: r,
+        tally: count(t, reached, false),
+    }
+}
+
+// The clock at one slot.
+fn on_clock(r: Subscription, t: Tally, time: u64, part: &mut [u8], dataset: &[u8]) -> Stepped
+    requires { ⌜ Room 1 t ⌝ }
+    ensures { λ s. ⌜ Steps (Event.Clock time) (now (dataset .entry)) r t (now (part .entry)) s (now (part .exit)) ⌝ }
+{
+    if is_due(r, time) {
+        if r.behaviour == 0 {
+            octets::clear(part);
+            return Stepped {
+                slot: mark(r),
+                tally: count(t, false, true),
+            };
+        }
+        return Stepped {
+            slot: mark(r),
+            tally: count(t, false, true),
+        };
+    }
+    Stepped {
+        slot: r,
+        tally: count(t, false, false),
+    }
+}
+
+// One slot at an event: its record, its part of the store, and the tally carried on.
+pub fn step(r: Subscription, t: Tally, ev: Event, part: &mut [u8], dataset: &[u8]) -> Stepped
+    requires { ⌜ Room 1 t ⌝ }
+    requires { ⌜ length (now part) ≡ 1432 ⌝ }
+    ensures { λ s. ⌜ Steps ev (now (dataset .entry)) r t (now (part .entry)) s (now (part .exit)) ⌝ }
+{
+    match ev {
+        Event::Telegram(h) => on_telegram(r, t, h, part, dataset),
+        Event::Clock(time) => on_clock(r, t, time, part, dataset),
+    }
+}

@@ -1,0 +1,124 @@
+-- The rules of a table commute with a map of its slots: `any`, `count`, `lowest`, `set`, `grant`, `atSlot`.
+use mathlib.Core.Path.{_≡_, refl, sym, ap, ap₂, _∙_}
+use mathlib.Core.Logic.{_≢_}
+use mathlib.Core.Bool.{Bool, true, false, cond, _||_, false≢true}
+use mathlib.Core.List.{List, [], _∷_, map}
+use mathlib.Core.Option.{Option, none, some}
+use Prim.Native.Nat.{ℕ, zero, suc, _<_, suc-le-suc}
+use native.Mathlib.Nat.{zero-lt-suc, not-suc-le-zero, le-of-suc-le-suc, suc-ne-zero, suc-inj}
+use native.Mathlib.Omega.{arith}
+use lib.Dec.{T, eqb, eqb→eq, eqb-refl}
+use lib.ListN.{length, getD, set, List·getD-map}
+use lib.Seq.{getD-set-other}
+use Rattle.tables.specs.Lists.{next, count, any, lowest, grant, atSlot}
+use Rattle.tables.specs.Trace.{Outcome}
+
+module _ {X Y : Type 0} (f : Y → X) where
+  module _ (p : X → Bool) (p′ : Y → Bool) (same : (y : Y) → p (f y) ≡ p′ y) where
+    pub any-map : (ys : List Y) → any p (map f ys) ≡ any p′ ys
+    any-map [] = refl
+    any-map (y ∷ ys) = ap₂ _||_ (same y) (any-map ys)
+
+    pub count-map : (ys : List Y) → count p (map f ys) ≡ count p′ ys
+    count-map [] = refl
+    count-map (y ∷ ys) = rw (same y, count-map ys) refl
+
+    pub lowest-map : (ys : List Y) → lowest p (map f ys) ≡ lowest p′ ys
+    lowest-map [] = refl
+    lowest-map (y ∷ ys) = rw (same y, lowest-map ys) refl
+
+  pub set-map : (ys : List Y) (k : ℕ) (y : Y) → set (map f ys) k (f y) ≡ map f (set ys k y)
+  set-map [] k y = refl
+  set-map (z ∷ ys) zero y = refl
+  set-map (z ∷ ys) (suc k) y = ap (λ l. f z ∷ l) (set-map ys k y)
+
+  pub map-each : (g : X → X) (g′ : Y → Y) → ((y : Y) → g (f y) ≡ f (g′ y)) → (ys : List Y) → map g (map f ys) ≡ map f (map g′ ys)
+  map-each g g′ same [] = refl
+  map-each g g′ same (y ∷ ys) = ap₂ _∷_ (same y) (map-each g g′ same ys)
+
+module _ {A X Y : Type 0} (f : Y → X) where
+  abbrev pub mapped : Outcome A (List Y) → Outcome A (List X)
+  mapped o = record { answer = o .answer; after = map f (o .after) }
+
+  pub grant-map : (early : Option A) (k : Option ℕ) (full : A) (given : ℕ → A) (y : Y) (ys : List Y)
+      → grant early k full given (f y) (map f ys) ≡ mapped (grant early k full given y ys)
+  unfolding grant
+  grant-map (some a) k full given y ys = refl
+  grant-map none none full given y ys = refl
+  grant-map none (some k) full given y ys = λ i. record { answer = given k; after = set-map f ys k y i }
+
+  pub atSlot-map : (y : Y) (u : X → Outcome A X) (u′ : Y → Outcome A Y) (k : ℕ)
+      → ((z : Y) → u (f z) ≡ record { answer = (u′ z) .answer; after = f ((u′ z) .after) })
+      → (ys : List Y) → atSlot (f y) u k (map f ys) ≡ mapped (atSlot y u′ k ys)
+  unfolding atSlot
+  atSlot-map y u u′ k same ys = rw (List·getD-map f ys k y, same (getD ys k y), set-map f ys k ((u′ (getD ys k y)) .after)) refl
+
+-- the lowest that passes is one of them, and does pass
+pub lowest-is : {X : Type 0} (p : X → Bool) (d : X) (xs : List X) (j : ℕ) → lowest p xs ≡ some j → (j < length xs) × (p (getD xs j d) ≡ true)
+lowest-is p d [] j e = let z : _≡_ {A = ℕ} 0 1 = cc in absurd (omega arith)
+lowest-is p d (x ∷ xs) j e = go (λ i. lowest-is p d xs i) (p x) refl e
+  where
+    further : ((i : ℕ) → lowest p xs ≡ some i → (i < length xs) × (p (getD xs i d) ≡ true))
+        → (o : Option ℕ) → lowest p xs ≡ o → next o ≡ some j → (j < suc (length xs)) × (p (getD (x ∷ xs) j d) ≡ true)
+    further ih none l e′ = let z : _≡_ {A = ℕ} 0 1 = cc in absurd (omega arith)
+    further ih (some i) l e′ = let z : j ≡ suc i = cc in rw z (suc-le-suc ((ih i l) .0), (ih i l) .1)
+
+    go : ((i : ℕ) → lowest p xs ≡ some i → (i < length xs) × (p (getD xs i d) ≡ true))
+        → (b : Bool) → p x ≡ b → cond b (some zero) (next (lowest p xs)) ≡ some j → (j < suc (length xs)) × (p (getD (x ∷ xs) j d) ≡ true)
+    go ih true h e′ = let z : j ≡ zero = cc in rw z (zero-lt-suc (length xs), h)
+    go ih false h e′ = further ih (lowest p xs) refl e′
+
+-- a grant leaves a slot that is held as it was
+pub grant-leaves : {A X : Type 0} (isFree : X → Bool) (d : X) (early : Option A) (full : A) (given : ℕ → A) (new : X) (xs : List X) (k : ℕ)
+    → isFree (getD xs k d) ≡ false
+    → (o : Option ℕ) → lowest isFree xs ≡ o → getD ((grant early o full given new xs) .after) k d ≡ getD xs k d
+unfolding grant
+grant-leaves isFree d (some a) full given new xs k h o e = refl
+grant-leaves isFree d none full given new xs k h none e = refl
+grant-leaves isFree d none full given new xs k h (some j) e =
+    getD-set-other xs j k new d (λ p. false≢true (sym h ∙ rw p ((lowest-is isFree d xs j e) .1)))
+
+-- where one is set, a fact of all but the new one stays
+pub fact-set : {X : Type 0} (P : X → Type 0) (d : X) (xs : List X) (j i : ℕ) (y : X) → P (getD xs i d) → P y → P (getD (set xs j y) i d)
+fact-set P d [] j i y h n = h
+fact-set P d (x ∷ xs) zero zero y h n = n
+fact-set P d (x ∷ xs) zero (suc i) y h n = h
+fact-set P d (x ∷ xs) (suc j) zero y h n = h
+fact-set P d (x ∷ xs) (suc j) (suc i) y h n = fact-set P d xs j i y h n
+
+pub any-false : {X : Type 0} (p : X → Bool) (d : X) (xs : List X) (k : ℕ) → any p xs ≡ false → p d ≡ false → p (getD xs k d) ≡ false
+any-false p d [] k e h = h
+any-false p d (x ∷ xs) k e h = go (p x) refl k (λ i e′. any-false p d xs i e′ h) e
+  where
+    go : (b : Bool) → p x ≡ b → (k : ℕ) → ((i : ℕ) → any p xs ≡ false → p (getD xs i d) ≡ false) → b || any p xs ≡ false → p (getD (x ∷ xs) k d) ≡ false
+    go true n k ih e′ = absurd (false≢true (sym e′))
+    go false n zero ih e′ = n
+    go false n (suc k) ih e′ = ih k e′
+
+none-pass : {X : Type 0} (p : X → Bool) (d : X) (xs : List X) → ((j : ℕ) → p (getD xs j d) ≡ false) → lowest p xs ≡ none
+none-pass p d [] h = refl
+none-pass p d (x ∷ xs) h = rw (h zero, none-pass p d xs (λ j. h (suc j))) refl
+
+-- where only slot k can pass, the lowest that passes is slot k or none
+pub lowest-only : {X : Type 0} (p : X → Bool) (d : X) (xs : List X) (k : ℕ) → k < length xs → ((j : ℕ) → j ≢ k → p (getD xs j d) ≡ false)
+    → lowest p xs ≡ cond (p (getD xs k d)) (some k) none
+lowest-only p d [] k lt h = absurd (not-suc-le-zero lt)
+lowest-only p d (x ∷ xs) zero lt h = ap (λ o. cond (p x) (some zero) (next o)) (none-pass p d xs (λ j. h (suc j) (λ e. suc-ne-zero j e)))
+lowest-only p d (x ∷ xs) (suc k) lt h =
+    rw (h zero (λ e. suc-ne-zero k (sym e)), lowest-only p d xs k (le-of-suc-le-suc lt) (λ j n. h (suc j) (λ e. n (suc-inj e)))) (next-cond (p (getD xs k d)))
+  where
+    next-cond : (b : Bool) → next (cond b (some k) none) ≡ cond b (some (suc k)) none
+    next-cond true = refl
+    next-cond false = refl
+
+-- ---- tests
+
+pub is-true : (b : Bool) → T b → b ≡ true
+is-true true t = refl
+is-true false t = absurd t
+
+pub eqb-same : (j k : ℕ) → eqb j k ≡ true → j ≡ k
+eqb-same j k e = eqb→eq j k (rw e tt)
+
+pub eqb-other : (j k : ℕ) → eqb j k ≡ false → k ≢ j
+eqb-other j k e p = false≢true (sym e ∙ rw p (is-true (eqb j j) (eqb-refl j)))
