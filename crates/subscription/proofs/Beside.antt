@@ -9,7 +9,7 @@ use Prim.Native.Nat.{ℕ, zero, suc, _*_, _≤_}
 use native.Mathlib.Nat.{zero-mul, suc-mul, add-comm}
 use lib.ListN.{length, set, replicate, length-set, length-map, length-replicate, replicate-append-replicate}
 use Rattle.subscription.specs.Record.{unsound}
-use Rattle.subscription.specs.declared.Arrival.{Arrival}
+use Rattle.arrival.specs.declared.Arrival.{Arrival}
 use Rattle.subscription.specs.declared.Heard.{Heard}
 use Rattle.tables.specs.Lists.{any, lowest, grant, atSlot}
 use Rattle.tables.specs.Trace.{Outcome, trace}

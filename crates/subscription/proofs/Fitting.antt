@@ -10,9 +10,10 @@ use Rattle.refusal.proofs.Order.{passed-first}
 use Rattle.telegram.specs.Telegram.{commonOf, checks, datasetOf}
 use Rattle.telegram.specs.declared.Family.the-variants as family
 use Rattle.telegram.proofs.Reading.{sound, whole}
-use Rattle.subscription.specs.declared.Arrival.{Arrival}
+use Rattle.arrival.specs.declared.Arrival.{Arrival}
+use Rattle.arrival.specs.Arrival.{topographyCheck, arrivalChecks}
 use Rattle.subscription.specs.declared.Heard.{Heard}
-use Rattle.subscription.specs.Slot.{refusal, passed, judgedBy, judged, topographyCheck, arrivalChecks, heardOf, slotOctets}
+use Rattle.subscription.specs.Slot.{refusal, passed, judgedBy, judged, heardOf, slotOctets}
 
 apart : (r : ℕ) (h : Heard) (dataset : List ℕ) → refusal r ≡ passed h dataset → ⊥
 apart r h dataset e = let z : _≡_ {A = ℕ} 0 1 = cc in omega arith
@@ -24,7 +25,7 @@ opened (suc v) g h s dataset e = absurd (apart (suc v) h dataset e)
 pub judged-fits : (a : Arrival) (d : List ℕ) (h : Heard) (dataset : List ℕ) → judged a d ≡ passed h dataset → length dataset ≤ slotOctets
 unfolding judged slotOctets
 judged-fits a d h dataset e =
-    let o = opened (firstOf (arrivalChecks a d)) (heardOf a d) h (datasetOf family.Pd d) dataset e in
+    let o = opened (firstOf (arrivalChecks family.Pd a d)) (heardOf a d) h (datasetOf family.Pd d) dataset e in
     let s = sound family.Pd d (whole family.Pd d (passed-first (checks family.Pd d) (topographyCheck a d ∷ []) tt (o .0)) .0) in
     let n : ℕ = commonOf d .«dataset_length» in
     let l : length (datasetOf family.Pd d) ≤ n = simp length-take (omega arith) in

@@ -1,6 +1,6 @@
 -- Demand 3: the slot alone, and the model made of slots alone.
 use Rattle.subscription.specs.Record.{matches, equal, unsound}
-use Rattle.subscription.specs.declared.Arrival.{Arrival}
+use Rattle.arrival.specs.declared.Arrival.{Arrival}
 use Rattle.subscription.specs.declared.Heard.{Heard}
 use Prim.Native.Nat.{ℕ, zero, suc}
 use mathlib.Core.Bool.{Bool, true, false, cond}

@@ -1,14 +1,14 @@
 -- One slot: a subscription's record and its 1432 octets of the store. Document 01, Subscriptions.
 use Prim.Native.Nat.{ℕ, zero, suc}
-use mathlib.Core.Bool.{Bool, cond, not}
-use mathlib.Core.List.{List, [], _∷_, _++_}
+use mathlib.Core.Bool.{Bool, cond}
+use mathlib.Core.List.{List, _++_}
 use lib.Dec.{ltb}
 use lib.ListN.{length, take, drop, replicate}
-use Rattle.refusal.specs.Refusal.{Check, _when_, firstOf, topography}
-use Rattle.topography.specs.Topography.{passes}
-use Rattle.telegram.specs.Telegram.{commonOf, checks, datasetOf}
+use Rattle.refusal.specs.Refusal.{Check, firstOf}
+use Rattle.arrival.specs.declared.Arrival.{Arrival}
+use Rattle.arrival.specs.Arrival.{arrivalChecks}
+use Rattle.telegram.specs.Telegram.{commonOf, datasetOf}
 use Rattle.telegram.specs.declared.Family.the-variants as family
-use Rattle.subscription.specs.declared.Arrival.{Arrival}
 use Rattle.subscription.specs.declared.Filter.{Filter}
 use Rattle.subscription.specs.declared.Heard.{Heard}
 use Rattle.subscription.specs.declared.Subscription.{Subscription}
@@ -16,16 +16,9 @@ use Rattle.subscription.specs.Record.{freeRecord, grantedRecord, recordW
 
 -- ---- a telegram, and what checks 2 to 7 make of it
 
--- 7, judged on the header
-abbrev pub topographyCheck : Arrival → List ℕ → Check
-topographyCheck a d =
-    topography
-    when not
-    (passes (record { «etb_topo_cnt» = commonOf d .«etb_topo_cnt»; «op_trn_topo_cnt» = commonOf d .«op_trn_topo_cnt» }) (a .local))
-
--- 2 to 7, in that order
-abbrev pub arrivalChecks : Arrival → List ℕ → List Check
-arrivalChecks a d = checks family.Pd d ++ (topographyCheck a d ∷ [])
+-- 2 to 7
+abbrev pub pdChecks : Arrival → List ℕ → List Check
+pdChecks a d = arrivalChecks family.Pd a d
 
 -- what a slot sees of it
 abbrev pub heardOf : Arrival → List ℕ → Heard
@@ -48,7 +41,7 @@ judgedBy zero h s = passed h s
 judgedBy (suc r) h s = refusal (suc r)
 
 unfoldable pub judged : Arrival → List ℕ → Judged
-judged a d = judgedBy (firstOf (arrivalChecks a d)) (heardOf a d) (datasetOf family.Pd d)
+judged a d = judgedBy (firstOf (pdChecks a d)) (heardOf a d) (datasetOf family.Pd d)
 
 -- ---- the slot
 

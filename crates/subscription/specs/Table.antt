@@ -1,6 +1,6 @@
 -- The table of subscriptions and its store, and what each call answers and leaves. Document 01, Subscriptions and Numbers.
 use Rattle.subscription.specs.Record.{equal, unsound, stateOf}
-use Rattle.subscription.specs.declared.Arrival.{Arrival}
+use Rattle.arrival.specs.declared.Arrival.{Arrival}
 use Prim.Native.Nat.{ℕ, zero, suc, _*_}
 use mathlib.Core.Bool.{Bool, true, false, cond, not, _&&_}
 use mathlib.Core.List.{List, [], _∷_, _++_, map}

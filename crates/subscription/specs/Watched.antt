@@ -1,6 +1,6 @@
 -- Demand 3 for one subscription: slot k of the table, and what it is fed.
 use Rattle.subscription.specs.Record.{matches}
-use Rattle.subscription.specs.declared.Arrival.{Arrival}
+use Rattle.arrival.specs.declared.Arrival.{Arrival}
 use Prim.Native.Nat.{ℕ, _*_}
 use mathlib.Core.Bool.{Bool, false, cond, not}
 use mathlib.Core.List.{List, [], _∷_}

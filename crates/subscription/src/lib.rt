@@ -1,7 +1,6 @@
 // One PD subscription: its record, and its steps by value.
 use address::SenderRange;
 use timing::Timing;
-use topography::TopoCounts;
 ghost use mathlib.Core.Path.{_≡_};
 ghost use Prim.Native.Nat.{_+_};
 ghost use lib.ListN.{length};
@@ -35,15 +34,6 @@ pub struct Subscription {
     pub state: u8,
     pub last: LastTaken,
     pub length: u32,
-}
-
-// What comes with an arriving telegram: sender, destination, time, and the local counters.
-#[repr(C)]
-pub struct Arrival {
-    pub sender: u32,
-    pub destination: u32,
-    pub time: u64,
-    pub local: TopoCounts,
 }
 
 // A telegram that passed checks 2 to 7, as a slot sees it; its dataset stands beside.

@@ -4,12 +4,13 @@ use mathlib.Core.Logic.{_≢_}
 use mathlib.Core.Bool.{Bool, true, false, cond, _||_, false≢true}
 use mathlib.Core.List.{List, [], _∷_, map}
 use mathlib.Core.Option.{Option, none, some}
-use Prim.Native.Nat.{ℕ, zero, suc, _<_, suc-le-suc}
-use native.Mathlib.Nat.{zero-lt-suc, not-suc-le-zero, le-of-suc-le-suc, suc-ne-zero, suc-inj}
+use Prim.Native.Nat.{ℕ, zero, suc, _+_, _<_, _≤_, suc-le-suc}
+use native.Mathlib.Nat.{zero-lt-suc, not-suc-le-zero, le-of-suc-le-suc, suc-ne-zero, suc-inj, add-zero, zero-add}
+use native.Mathlib.Numerals.{add-one}
 use native.Mathlib.Omega.{arith}
 use lib.Dec.{T, eqb, eqb→eq, eqb-refl}
-use lib.ListN.{length, getD, set, List·getD-map}
-use lib.Seq.{getD-set-other}
+use lib.ListN.{length, getD, set, List·getD-map, drop, drop-of-length-le}
+use lib.Seq.{getD-set-other, drop-cons}
 use Rattle.tables.specs.Lists.{next, count, any, lowest, grant, atSlot}
 use Rattle.tables.specs.Trace.{Outcome}
 
@@ -122,3 +123,43 @@ eqb-same j k e = eqb→eq j k (rw e tt)
 
 pub eqb-other : (j k : ℕ) → eqb j k ≡ false → k ≢ j
 eqb-other j k e p = false≢true (sym e ∙ rw p (is-true (eqb j j) (eqb-refl j)))
+
+-- ---- a search from the front, one slot after the other
+
+abbrev pub shift : ℕ → Option ℕ → Option ℕ
+shift i none = none
+shift i (some j) = some (i + j)
+
+module _ {X : Type 0} (p : X → Bool) (d : X) (xs : List X) (i : ℕ) where
+  at : i < length xs → drop i xs ≡ getD xs i d ∷ drop (i + 1) xs
+  at h = rw (add-one, drop-cons xs i d) refl
+
+  -- the first from i on
+  pub lowest-here : i < length xs → p (getD xs i d) ≡ true → shift i (lowest p (drop i xs)) ≡ some i
+  lowest-here h e = rw (at h, e) (ap some (add-zero i))
+
+  pub lowest-next : i < length xs → p (getD xs i d) ≡ false → shift i (lowest p (drop i xs)) ≡ shift (i + 1) (lowest p (drop (i + 1) xs))
+  lowest-next h e = rw (at h, e) (go (lowest p (drop (i + 1) xs)))
+    where
+      go : (o : Option ℕ) → shift i (next o) ≡ shift (i + 1) o
+      go none = refl
+      go (some j) = ap some (omega arith)
+
+  pub lowest-end : length xs ≤ i → shift i (lowest p (drop i xs)) ≡ none
+  lowest-end h = rw (drop-of-length-le xs h) refl
+
+  pub any-here : i < length xs → p (getD xs i d) ≡ true → any p (drop i xs) ≡ true
+  any-here h e = rw (at h, e) refl
+
+  pub any-next : i < length xs → p (getD xs i d) ≡ false → any p (drop i xs) ≡ any p (drop (i + 1) xs)
+  any-next h e = rw (at h, e) refl
+
+  pub any-end : length xs ≤ i → any p (drop i xs) ≡ false
+  any-end h = rw (drop-of-length-le xs h) refl
+
+pub lowest-start : {X : Type 0} (p : X → Bool) (xs : List X) → lowest p xs ≡ shift 0 (lowest p xs)
+lowest-start p xs = go (lowest p xs)
+  where
+    go : (o : Option ℕ) → o ≡ shift 0 o
+    go none = refl
+    go (some j) = ap some (sym (zero-add j))

@@ -1,0 +1,10 @@
+pub mod Walks
+pub mod Steps
+pub mod Descriptions
+pub mod Shapes
+pub mod Turns
+pub mod Falls
+pub mod Counts
+pub mod Loops
+pub mod Conversions
+pub mod RoundTrip

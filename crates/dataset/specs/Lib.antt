@@ -1,0 +1,3 @@
+pub mod Descriptions
+pub mod Walk
+pub mod Steps

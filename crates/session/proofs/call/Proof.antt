@@ -1,0 +1,16 @@
+use borrow.Author.Needs.{needs}
+use Rattle.session.proofs.Answers.{called}
+use Rattle.session.proofs.call.Statement.{statement}
+use Rattle.session.proofs.call.Tie as tie
+
+open-requires : tie.Need-open-requires
+open-requires c κs = search needs
+
+opened-as-requires : tie.Need-opened-as-requires
+opened-as-requires c κs = search needs
+
+returns : tie.Need-returns
+returns c = called (c .before .before .before .before .before .args .id) (c .before .before .before .before .before .args .timeout) (c .before .before .before .before .before .args .time) (c .before .before .before .before .before .args .t) (c .before .before .before .«open» .result) (c .opened-as .result) (c .before .before .before .«open» .ensures) (c .opened-as .ensures)
+
+pub call-spec : {M : Type 1} → statement M
+call-spec = tie.close (tie.spec open-requires opened-as-requires returns)

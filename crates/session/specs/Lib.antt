@@ -1,0 +1,5 @@
+pub mod Listener
+pub mod Session
+pub mod Table
+pub mod Alone
+pub mod Calls

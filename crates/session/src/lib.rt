@@ -1,0 +1,585 @@
+// Message sessions: one listener, one session, and sixteen of each, by value.
+use address::SenderRange;
+use timing::Timing;
+ghost use lib.ListN.{getD};
+ghost use mathlib.Core.Path.{_≡_};
+ghost use mathlib.Core.Bool.{not};
+ghost use Rattle.tables.specs.Lists.{any, lowest};
+ghost use Rattle.md.specs.Uri.{equal};
+ghost use Rattle.session.specs.Listener.{freeListener, newListener, hears, holds};
+ghost use Rattle.session.specs.Session.{freeSession, isFree, waitsForReply, owesConfirm, isWithUser, waitsForConfirm, has, codeOf, isUp, expired};
+ghost use Rattle.session.specs.Table.{canTake, answered, calling, reply, confirm, unlisten, opened, refusedPlain, isReply};
+ghost use Rattle.session.specs.Calls.{foundOf, meaning, waitsOf, placeAnswer, Opens, Follows, refusing, keeping, keepingListener};
+ghost use Rattle.refusal.specs.Refusal.{noFreeSession};
+
+// A reply that asks for no confirm.
+pub const MP: u16 = 0x4D70;
+// A reply that asks for a confirm.
+pub const MQ: u16 = 0x4D71;
+
+// Which requests and notifications a listener is for: a ComId, a range of senders, a destination URI (empty: any).
+pub struct Listener {
+    pub used: bool,
+    pub com_id: u32,
+    pub senders: SenderRange,
+    pub uri: [u8; 32],
+}
+
+// What a session waits for. Each waiting state carries its start and timeout.
+pub enum SessionState {
+    Free,
+    WaitingForReply(Timing),
+    OwingConfirm(Timing),
+    WithUser(Timing),
+    WaitingForConfirm(Timing),
+}
+
+// A session: its identifier and its state.
+pub struct Session {
+    pub id: [u8; 16],
+    pub state: SessionState,
+}
+
+// Sixteen listeners and sixteen sessions.
+pub struct Tables {
+    pub listeners: [Listener; 16],
+    pub sessions: [Session; 16],
+}
+
+// A place in a table, or none.
+pub enum Found {
+    At(usize),
+    Nothing,
+}
+
+// What a call answers.
+pub enum Answer {
+    // The listener's slot.
+    Listening(usize),
+    Freed,
+    // The session's slot.
+    Opened(usize),
+    // A notification: the listener.
+    Notified(usize),
+    // A request: the listener, and the session's slot.
+    Requested(usize, usize),
+    // replyStatus, and the session's slot.
+    Taken(i32, usize),
+    Replied,
+    Confirmed,
+    // The number, and the status for the Me to be sent.
+    Refused(u8, i32),
+}
+
+// The tables after a call, and its answer.
+pub struct Told {
+    pub tables: Tables,
+    pub answer: Answer,
+}
+
+// A listener that is free.
+pub fn no_listener() -> Listener
+    ensures { λ r. ⌜ r ≡ freeListener ⌝ }
+{
+    Listener {
+        used: false,
+        com_id: 0,
+        senders: SenderRange { start: 0, end: 0 },
+        uri: [0u8; 32],
+    }
+}
+
+// A session that is free.
+pub fn no_session() -> Session
+    ensures { λ r. ⌜ r ≡ freeSession ⌝ }
+{
+    Session {
+        id: [0u8; 16],
+        state: SessionState::Free,
+    }
+}
+
+// A listener in use whose filter matches a telegram.
+pub fn is_heard(l: Listener, com_id: u32, sender: u32, destination: &[u8]) -> bool
+    ensures { λ r. ⌜ r ≡ hears «com_id» sender (now (destination .entry)) l ⌝ }
+{
+    if l.used {
+        if l.com_id == com_id {
+            if address::admit(l.senders, sender) {
+                let u = l.uri;
+                if md::uri::is_empty(&u) {
+                    return true;
+                }
+                return md::uri::are_same(&u, destination);
+            }
+        }
+    }
+    false
+}
+
+// A listener in use with an equal filter.
+pub fn is_held(l: Listener, com_id: u32, senders: SenderRange, uri: &[u8]) -> bool
+    ensures { λ r. ⌜ r ≡ holds «com_id» senders (now (uri .entry)) l ⌝ }
+{
+    if l.used {
+        if l.com_id == com_id {
+            if address::are_same(l.senders, senders) {
+                let u = l.uri;
+                return md::uri::are_same(&u, uri);
+            }
+        }
+    }
+    false
+}
+
+// Two identifiers are equal.
+pub fn are_equal(a: [u8; 16], b: [u8; 16]) -> bool
+    ensures { λ r. ⌜ r ≡ equal a b ⌝ }
+{
+    let mut i: usize = 0;
+    while i < 16 {
+        if a[i] != b[i] {
+            return false;
+        }
+        i += 1;
+    }
+    true
+}
+
+pub fn is_free(s: SessionState) -> bool
+    ensures { λ r. ⌜ r ≡ isFree s ⌝ }
+{
+    match s {
+        SessionState::Free => true,
+        SessionState::WaitingForReply(_) => false,
+        SessionState::OwingConfirm(_) => false,
+        SessionState::WithUser(_) => false,
+        SessionState::WaitingForConfirm(_) => false,
+    }
+}
+
+// A session in use, in any state, with that identifier.
+pub fn is_session(x: Session, id: [u8; 16]) -> bool
+    ensures { λ r. ⌜ r ≡ has id x ⌝ }
+{
+    let s = x.state;
+    if is_free(s) {
+        return false;
+    }
+    let own = x.id;
+    are_equal(own, id)
+}
+
+// The session's time is up.
+pub fn is_up(s: SessionState, time: u64) -> bool
+    ensures { λ r. ⌜ r ≡ isUp time s ⌝ }
+{
+    match s {
+        SessionState::Free => false,
+        SessionState::WaitingForReply(t) => timing::is_up(t, time),
+        SessionState::OwingConfirm(t) => timing::is_up(t, time),
+        SessionState::WithUser(t) => timing::is_up(t, time),
+        SessionState::WaitingForConfirm(t) => timing::is_up(t, time),
+    }
+}
+
+// A session after a time check.
+pub fn expire(x: Session, time: u64) -> Session
+    ensures { λ r. ⌜ r ≡ expired time x ⌝ }
+{
+    let s = x.state;
+    if is_up(s, time) {
+        return no_session();
+    }
+    x
+}
+
+// The lowest listener that hears a telegram.
+pub fn find_listener(ls: [Listener; 16], com_id: u32, sender: u32, destination: &[u8]) -> Found
+    ensures { λ r. ⌜ r ≡ foundOf (lowest (hears «com_id» sender (now (destination .entry))) ls) ⌝ }
+{
+    let mut i: usize = 0;
+    while i < 16 {
+        let l = ls[i];
+        if is_heard(l, com_id, sender, destination) {
+            return Found::At(i);
+        }
+        i += 1;
+    }
+    Found::Nothing
+}
+
+// The lowest listener that is free.
+fn free_listener(ls: [Listener; 16]) -> Found
+    ensures { λ r. ⌜ r ≡ foundOf (lowest (λ l. not (l .used)) ls) ⌝ }
+{
+    let mut i: usize = 0;
+    while i < 16 {
+        let l = ls[i];
+        if l.used {
+            i += 1;
+        } else {
+            return Found::At(i);
+        }
+    }
+    Found::Nothing
+}
+
+// A listener with an equal filter is in use.
+fn has_listener(ls: [Listener; 16], com_id: u32, senders: SenderRange, uri: &[u8]) -> bool
+    ensures { λ r. ⌜ r ≡ any (holds «com_id» senders (now (uri .entry))) ls ⌝ }
+{
+    let mut i: usize = 0;
+    while i < 16 {
+        let l = ls[i];
+        if is_held(l, com_id, senders, uri) {
+            return true;
+        }
+        i += 1;
+    }
+    false
+}
+
+// The lowest session that is free.
+fn free_session(xs: [Session; 16]) -> Found
+    ensures { λ r. ⌜ r ≡ foundOf (lowest (λ x. isFree (x .state)) xs) ⌝ }
+{
+    let mut i: usize = 0;
+    while i < 16 {
+        let x = xs[i];
+        let s = x.state;
+        if is_free(s) {
+            return Found::At(i);
+        }
+        i += 1;
+    }
+    Found::Nothing
+}
+
+// A session of that identifier is in use.
+fn has_session(xs: [Session; 16], id: [u8; 16]) -> bool
+    ensures { λ r. ⌜ r ≡ any (has id) xs ⌝ }
+{
+    let mut i: usize = 0;
+    while i < 16 {
+        let x = xs[i];
+        if is_session(x, id) {
+            return true;
+        }
+        i += 1;
+    }
+    false
+}
+
+// What an incoming telegram asks of a session: that it waits for a reply, or for a confirm.
+pub enum Waits {
+    Reply,
+    Confirm,
+}
+
+// Where a session was opened, or why not.
+pub enum Place {
+    Slot(usize),
+    InUse,
+    Full,
+}
+
+// The sessions after an opening.
+pub struct Opening {
+    pub sessions: [Session; 16],
+    pub place: Place,
+}
+
+fn waits_for_reply(s: SessionState) -> bool
+    ensures { λ r. ⌜ r ≡ waitsForReply s ⌝ }
+{
+    match s {
+        SessionState::Free => false,
+        SessionState::WaitingForReply(_) => true,
+        SessionState::OwingConfirm(_) => false,
+        SessionState::WithUser(_) => false,
+        SessionState::WaitingForConfirm(_) => false,
+    }
+}
+
+fn waits_for_confirm(s: SessionState) -> bool
+    ensures { λ r. ⌜ r ≡ waitsForConfirm s ⌝ }
+{
+    match s {
+        SessionState::Free => false,
+        SessionState::WaitingForReply(_) => false,
+        SessionState::OwingConfirm(_) => false,
+        SessionState::WithUser(_) => false,
+        SessionState::WaitingForConfirm(_) => true,
+    }
+}
+
+fn is_waiting(w: Waits, s: SessionState) -> bool
+    ensures { λ r. ⌜ r ≡ waitsOf w s ⌝ }
+{
+    match w {
+        Waits::Reply => waits_for_reply(s),
+        Waits::Confirm => waits_for_confirm(s),
+    }
+}
+
+// A session of that identifier that can take this.
+fn can_take(x: Session, id: [u8; 16], w: Waits) -> bool
+    ensures { λ r. ⌜ r ≡ canTake (waitsOf w) id x ⌝ }
+{
+    if is_session(x, id) {
+        let s = x.state;
+        return is_waiting(w, s);
+    }
+    false
+}
+
+// The lowest session of that identifier that can take this.
+fn find_taker(xs: [Session; 16], id: [u8; 16], w: Waits) -> Found
+    ensures { λ r. ⌜ r ≡ foundOf (lowest (canTake (waitsOf w) id) xs) ⌝ }
+{
+    let mut i: usize = 0;
+    while i < 16 {
+        let x = xs[i];
+        if can_take(x, id, w) {
+            return Found::At(i);
+        }
+        i += 1;
+    }
+    Found::Nothing
+}
+
+// The lowest free session is opened, unless the identifier is in use or none is free.
+fn open(xs: [Session; 16], id: [u8; 16], state: SessionState) -> Opening
+    ensures { λ r. ⌜ Opens id state xs r ⌝ }
+{
+    if has_session(xs, id) {
+        return Opening {
+            sessions: xs,
+            place: Place::InUse,
+        };
+    }
+    let f = free_session(xs);
+    let Found::At(k) = f else {
+        return Opening {
+            sessions: xs,
+            place: Place::Full,
+        };
+    };
+    if k < 16 {
+        let mut ys = xs;
+        ys[k] = Session {
+            id: id,
+            state: state,
+        };
+        return Opening {
+            sessions: ys,
+            place: Place::Slot(k),
+        };
+    }
+    Opening {
+        sessions: xs,
+        place: Place::Full,
+    }
+}
+
+fn owes_confirm(s: SessionState) -> bool
+    ensures { λ r. ⌜ r ≡ owesConfirm s ⌝ }
+{
+    match s {
+        SessionState::Free => false,
+        SessionState::WaitingForReply(_) => false,
+        SessionState::OwingConfirm(_) => true,
+        SessionState::WithUser(_) => false,
+        SessionState::WaitingForConfirm(_) => false,
+    }
+}
+
+fn is_with_user(s: SessionState) -> bool
+    ensures { λ r. ⌜ r ≡ isWithUser s ⌝ }
+{
+    match s {
+        SessionState::Free => false,
+        SessionState::WaitingForReply(_) => false,
+        SessionState::OwingConfirm(_) => false,
+        SessionState::WithUser(_) => true,
+        SessionState::WaitingForConfirm(_) => false,
+    }
+}
+
+// A call that is refused leaves the tables as they are.
+fn refuse(t: Tables, number: u8) -> Told
+    ensures { λ r. ⌜ r ≡ refusing t number ⌝ }
+{
+    Told {
+        tables: t,
+        answer: Answer::Refused(number, 0),
+    }
+}
+
+// The session of a slot; a slot too large is a free one.
+fn session_at(xs: [Session; 16], k: usize) -> Session
+    ensures { λ r. ⌜ r ≡ getD xs k freeSession ⌝ }
+{
+    if k < 16 {
+        return xs[k];
+    }
+    no_session()
+}
+
+// The tables with another session in a slot.
+fn keep(t: Tables, k: usize, x: Session, answer: Answer) -> Told
+    ensures { λ r. ⌜ r ≡ keeping t k x answer ⌝ }
+{
+    let ls = t.listeners;
+    let mut xs = t.sessions;
+    if k < 16 {
+        xs[k] = x;
+    }
+    Told {
+        tables: Tables {
+            listeners: ls,
+            sessions: xs,
+        },
+        answer: answer,
+    }
+}
+
+// What an opening answers to a request of the user's: 17, 18.
+fn opened_as(place: Place) -> Answer
+    ensures { λ r. ⌜ meaning r ≡ placeAnswer opened (refusedPlain noFreeSession) place ⌝ }
+{
+    match place {
+        Place::Slot(k) => Answer::Opened(k),
+        Place::InUse => Answer::Refused(refusal::SESSION_IN_USE, 0),
+        Place::Full => Answer::Refused(refusal::NO_FREE_SESSION, 0),
+    }
+}
+
+// Opens the session of a request: 17, 18.
+pub fn call(t: Tables, id: [u8; 16], timeout: u32, time: u64) -> Told
+    ensures { λ r. ⌜ Follows (calling id timeout time) t r ⌝ }
+{
+    let xs = t.sessions;
+    let waits = Timing {
+        start: time,
+        timeout: timeout,
+    };
+    let o = open(xs, id, SessionState::WaitingForReply(waits));
+    let ls = t.listeners;
+    let ys = o.sessions;
+    let place = o.place;
+    Told {
+        tables: Tables {
+            listeners: ls,
+            sessions: ys,
+        },
+        answer: opened_as(place),
+    }
+}
+
+// The session after the user's reply: with Mp it ends, with Mq it waits for a confirm.
+fn answer_as(x: Session, msg_type: u16, timeout: u32, time: u64) -> Session
+    ensures { λ r. ⌜ r ≡ answered «msg_type» timeout time x ⌝ }
+{
+    if msg_type == MP {
+        return no_session();
+    }
+    let waits = Timing {
+        start: time,
+        timeout: timeout,
+    };
+    let id = x.id;
+    Session {
+        id: id,
+        state: SessionState::WaitingForConfirm(waits),
+    }
+}
+
+// The types that a user may reply with.
+fn is_reply(msg_type: u16) -> bool
+    ensures { λ r. ⌜ r ≡ isReply «msg_type» ⌝ }
+{
+    if msg_type == MP {
+        return true;
+    }
+    msg_type == MQ
+}
+
+// The user's reply to the session of a slot: 5, 10, 19.
+pub fn reply(t: Tables, k: usize, msg_type: u16, timeout: u32, time: u64) -> Told
+    ensures { λ r. ⌜ Follows (reply k «msg_type» timeout time) t r ⌝ }
+{
+    if is_reply(msg_type) {
+        let xs = t.sessions;
+        let x = session_at(xs, k);
+        let s = x.state;
+        if is_free(s) {
+            return refuse(t, refusal::NO_SLOT);
+        }
+        if is_with_user(s) {
+            let y = answer_as(x, msg_type, timeout, time);
+            return keep(t, k, y, Answer::Replied);
+        }
+        return refuse(t, refusal::NO_SESSION);
+    }
+    refuse(t, refusal::MSG_TYPE)
+}
+
+// The user's confirm to the session of a slot: 10, 19.
+pub fn confirm(t: Tables, k: usize) -> Told
+    ensures { λ r. ⌜ Follows (confirm k) t r ⌝ }
+{
+    let xs = t.sessions;
+    let x = session_at(xs, k);
+    let s = x.state;
+    if is_free(s) {
+        return refuse(t, refusal::NO_SLOT);
+    }
+    if owes_confirm(s) {
+        let y = no_session();
+        return keep(t, k, y, Answer::Confirmed);
+    }
+    refuse(t, refusal::NO_SESSION)
+}
+
+// The listener of a slot; a slot too large is a free one.
+fn listener_at(ls: [Listener; 16], k: usize) -> Listener
+    ensures { λ r. ⌜ r ≡ getD ls k freeListener ⌝ }
+{
+    if k < 16 {
+        return ls[k];
+    }
+    no_listener()
+}
+
+// The tables with another listener in a slot.
+fn keep_listener(t: Tables, k: usize, l: Listener, answer: Answer) -> Told
+    ensures { λ r. ⌜ r ≡ keepingListener t k l answer ⌝ }
+{
+    let mut ls = t.listeners;
+    let xs = t.sessions;
+    if k < 16 {
+        ls[k] = l;
+    }
+    Told {
+        tables: Tables {
+            listeners: ls,
+            sessions: xs,
+        },
+        answer: answer,
+    }
+}
+
+// Frees the listener of a slot: 10.
+pub fn unlisten(t: Tables, k: usize) -> Told
+    ensures { λ r. ⌜ Follows (unlisten k) t r ⌝ }
+{
+    let ls = t.listeners;
+    let l = listener_at(ls, k);
+    if l.used {
+        let none = no_listener();
+        return keep_listener(t, k, none, Answer::Freed);
+    }
+    refuse(t, refusal::NO_SLOT)
+}

@@ -1,0 +1,40 @@
+-- An event at every slot of a lent table: records, store and tally after it.
+use Prim.Native.Nat.{ℕ, _*_}
+use mathlib.Core.Path.{_≡_}
+use mathlib.Core.List.{List, [], _∷_, _++_, map}
+use mathlib.Core.Bool.{Bool, cond}
+use lib.ListN.{length, take, drop}
+use Rattle.subscription.specs.declared.Event.{Event}
+use Rattle.subscription.specs.declared.Subscription.{Subscription}
+use Rattle.subscription.specs.declared.Tally.{Tally}
+use Rattle.subscription.specs.Step.{recordAfter, partAfter, tallied}
+use Rattle.subscription.specs.Table.{fits}
+use Rattle.subscriptions.specs.declared.Swept.{Swept}
+use Rattle.subscriptions.specs.declared.Swept.the-variants.{Done, Refused}
+
+-- slot k owns store octets 1432k to 1432k+1431: each part after the event, in order
+abbrev pub storeAfter : Event → List ℕ → List Subscription → List ℕ → List ℕ
+storeAfter ev dataset [] store = store
+storeAfter ev dataset (r ∷ rs) store = partAfter ev dataset r (take 1432 store) ++ storeAfter ev dataset rs (drop 1432 store)
+
+-- the slots reached and changed, counted one after the other
+abbrev pub tallyAfter : Event → ℕ → List Subscription → Tally → Tally
+tallyAfter ev n [] t = t
+tallyAfter ev n (r ∷ rs) t = tallyAfter ev n rs (tallied ev n r t)
+
+abbrev pub noTally : Tally
+noTally = record { matched = 0; changed = 0 }
+
+-- the slots that a sweep goes over: none where sizes are wrong
+abbrev pub lentSlots : ℕ → ℕ → ℕ
+lentSlots slots octets = cond (fits slots octets) slots 0
+
+-- what was counted, or a refusal where sizes are wrong
+abbrev pub sweptBy : ℕ → ℕ → Tally → Swept
+sweptBy slots octets t = cond (fits slots octets) (Done t) (Refused 1)
+
+-- sizes that are wrong are refused with 1, and all stays
+pub record Sweeps (ev : Event) (dataset : List ℕ) (records : List Subscription) (store : List ℕ) (swept : Swept) (records′ : List Subscription) (store′ : List ℕ) : Type 0 where
+  pub answers : swept ≡ cond (fits (length records) (length store)) (Done (tallyAfter ev (length dataset) records noTally)) (Refused 1)
+  pub records-after : records′ ≡ cond (fits (length records) (length store)) (map (recordAfter ev (length dataset)) records) records
+  pub store-after : store′ ≡ cond (fits (length records) (length store)) (storeAfter ev dataset records store) store

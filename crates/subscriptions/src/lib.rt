@@ -1,0 +1,472 @@
+// The subscription table over lent memory: records, and a store of 1432 octets for each.
+use arrival::Arrival;
+use subscription::Event;
+use subscription::Filter;
+use subscription::Heard;
+use subscription::State;
+use subscription::Subscription;
+use subscription::Tally;
+use telegram::Family;
+use topography::TopoCounts;
+ghost use mathlib.Core.Path.{_≡_};
+ghost use mathlib.Core.Bool.{cond, not};
+ghost use Prim.Native.Nat.{_+_, _*_, _≤_};
+ghost use lib.Dec.{eqb};
+ghost use Rattle.refusal.specs.Refusal.{firstOf};
+ghost use Rattle.subscription.specs.Slot.{pdChecks, heardOf};
+ghost use lib.ListN.{length, getD};
+ghost use Rattle.subscription.specs.Record.{unsound, freeRecord, grantedRecord};
+ghost use Rattle.subscription.specs.Table as table;
+ghost use Rattle.subscription.specs.Table.{fits};
+ghost use Rattle.subscription.specs.declared.Event.the-variants.{Clock, Telegram};
+ghost use Rattle.subscriptions.specs.Calls.{Follows, meaning, markedBy, deliveredBy, endOf};
+ghost use Rattle.subscriptions.specs.Search.{noneFound, looked, foundIn};
+ghost use Rattle.subscriptions.specs.Read.{Reads, readBy};
+ghost use Rattle.subscriptions.specs.Named.{away, noSlot, cleared, releasedOf, releasedStore, decided, denied};
+ghost use Rattle.subscriptions.specs.Sweep.{Sweeps, lentSlots, sweptBy, noTally};
+
+// What a sweep over the slots answers.
+pub enum Swept {
+    Done(Tally),
+    Refused(u8),
+}
+
+// What a call answers.
+pub enum Answer {
+    // The slot granted.
+    Granted(usize),
+    Freed,
+    // How many slots took the telegram.
+    Delivered(usize),
+    // How many slots were marked.
+    Marked(usize),
+    Refused(u8),
+}
+
+// A slot after it was freed or found free, and the answer.
+pub struct Released {
+    pub slot: Subscription,
+    pub answer: Answer,
+}
+
+// What the records show of a filter: one in use has it, a slot is free, and the lowest of those.
+pub struct Found {
+    pub held: bool,
+    pub free: bool,
+    pub slot: usize,
+}
+
+// What reading a slot shows: its state, and the substitute set or the first octets of its part.
+pub struct View {
+    pub state: State,
+    pub substitute: bool,
+    pub length: u32,
+}
+
+// What reading answers.
+pub enum Reading {
+    Shows(View),
+    Refused(u8),
+}
+
+// At most 32 slots, and 1432 octets for each.
+fn is_fit(slots: usize, octets: usize) -> bool
+    ensures { λ r. ⌜ r ≡ fits slots octets ⌝ }
+{
+    if 32 < slots {
+        return false;
+    }
+    octets == slots * 1432
+}
+
+// How many slots a sweep goes over: none where sizes are wrong.
+fn lent(slots: usize, octets: usize) -> usize
+    ensures { λ r. ⌜ r ≡ lentSlots slots octets ⌝ }
+{
+    if is_fit(slots, octets) {
+        return slots;
+    }
+    0
+}
+
+// Before the first slot nothing is counted.
+fn begin(ev: Event) -> Tally
+    ensures { λ r. ⌜ r ≡ noTally ⌝ }
+{
+    Tally {
+        matched: 0,
+        changed: 0,
+    }
+}
+
+// What was counted, or a refusal where sizes are wrong.
+fn reply(slots: usize, octets: usize, c: Tally) -> Swept
+    ensures { λ r. ⌜ r ≡ sweptBy slots octets c ⌝ }
+{
+    if is_fit(slots, octets) {
+        return Swept::Done(c);
+    }
+    Swept::Refused(1)
+}
+
+// A telegram that passed checks 2 to 7, or the clock, at every slot. Sizes that are wrong are refused with 1.
+pub fn sweep(t: &mut [Subscription], store: &mut [u8], ev: Event, dataset: &[u8]) -> Swept
+    ensures { λ r. ⌜ Sweeps ev (now (dataset .entry)) (now (t .entry)) (now (store .entry)) r (now (t .exit)) (now (store .exit)) ⌝ }
+{
+    let n = lent(t.len(), store.len());
+    let mut c = begin(ev);
+    let mut i: usize = 0;
+    while i < n {
+        let f = i * 1432;
+        let m = subscription::step(t[i], c, ev, &mut store[f..f + 1432], dataset);
+        t[i] = m.slot;
+        c = m.tally;
+        i = i + 1;
+    }
+    reply(t.len(), store.len(), c)
+}
+
+// The clock, as an event.
+fn clock(time: u64) -> Event
+    ensures { λ r. ⌜ r ≡ Clock time ⌝ }
+{
+    Event::Clock(time)
+}
+
+// What a sweep of the clock answers.
+fn marked(s: Swept) -> Answer
+    ensures { λ r. ⌜ r ≡ markedBy s ⌝ }
+{
+    match s {
+        Swept::Done(t) => Answer::Marked(t.changed),
+        Swept::Refused(n) => Answer::Refused(n),
+    }
+}
+
+// The time check: every slot in use whose time is up is marked. Sizes that are wrong are refused with 1.
+pub fn time_check(t: &mut [Subscription], store: &mut [u8], time: u64) -> Answer
+    ensures { λ r. ⌜ Follows (table.timeCheck time) (now (t .entry)) (now (store .entry)) (meaning r) (now (t .exit)) (now (store .exit)) ⌝ }
+{
+    let s = sweep(t, store, clock(time), &[]);
+    marked(s)
+}
+
+// Sizes are wrong, or there is no slot k.
+fn is_away(slots: usize, octets: usize, k: usize) -> bool
+    ensures { λ r. ⌜ r ≡ away slots octets k ⌝ }
+{
+    if is_fit(slots, octets) {
+        return slots <= k;
+    }
+    true
+}
+
+// A slot that is not there: 1 where sizes are wrong, else 10.
+fn refusal(slots: usize, octets: usize) -> Answer
+    ensures { λ r. ⌜ r ≡ noSlot slots octets ⌝ }
+{
+    if is_fit(slots, octets) {
+        return Answer::Refused(10);
+    }
+    Answer::Refused(1)
+}
+
+// Slot k is freed and its part zeroed; a slot that is free is refused with 10, and all stays.
+fn release(r: Subscription, store: &mut [u8], k: usize) -> Released
+    requires { ⌜ k * 1432 + 1432 ≤ length (now store) ⌝ }
+    ensures { λ s. ⌜ (s ≡ releasedOf r) × (now (store .exit) ≡ releasedStore r k (now (store .entry))) ⌝ }
+{
+    if r.used {
+        octets::clear_part(store, k * 1432, 1432);
+        return Released {
+            slot: subscription::free(),
+            answer: Answer::Freed,
+        };
+    }
+    Released {
+        slot: r,
+        answer: Answer::Refused(10),
+    }
+}
+
+// Unsubscribing: slot k is freed and its part zeroed, or 1, 10.
+pub fn unsubscribe(t: &mut [Subscription], store: &mut [u8], k: usize) -> Answer
+    ensures { λ r. ⌜ Follows (table.unsubscribe k) (now (t .entry)) (now (store .entry)) (meaning r) (now (t .exit)) (now (store .exit)) ⌝ }
+{
+    if is_away(t.len(), store.len(), k) {
+        return refusal(t.len(), store.len());
+    }
+    let m = release(t[k], store, k);
+    t[k] = m.slot;
+    m.answer
+}
+
+// Before the first record nothing is found.
+fn nothing() -> Found
+    ensures { λ r. ⌜ r ≡ noneFound ⌝ }
+{
+    Found {
+        held: false,
+        free: false,
+        slot: 0,
+    }
+}
+
+// Record i, after what the records before it showed.
+fn look(c: Found, r: Subscription, f: Filter, i: usize) -> Found
+    ensures { λ q. ⌜ q ≡ looked f i r c ⌝ }
+{
+    if r.used {
+        let g = r.filter;
+        if subscription::are_equal(f, g) {
+            return Found {
+                held: true,
+                free: c.free,
+                slot: c.slot,
+            };
+        }
+        return c;
+    }
+    if c.free {
+        return c;
+    }
+    Found {
+        held: c.held,
+        free: true,
+        slot: i,
+    }
+}
+
+// One pass over the records: is an equal filter in use, and which is the lowest free slot.
+pub fn search(t: &[Subscription], f: Filter) -> Found
+    ensures { λ r. ⌜ r ≡ foundIn f (now (t .entry)) ⌝ }
+{
+    let mut c = nothing();
+    let mut i: usize = 0;
+    while i < t.len() {
+        c = look(c, t[i], f, i);
+        i = i + 1;
+    }
+    c
+}
+
+// Sizes are wrong.
+fn is_unfit(slots: usize, octets: usize) -> bool
+    ensures { λ r. ⌜ r ≡ not (fits slots octets) ⌝ }
+{
+    if is_fit(slots, octets) {
+        return false;
+    }
+    true
+}
+
+// 11, 12 or 13: a range reversed, an equal filter in use, no slot free; else the lowest free slot.
+fn decide(f: Filter, s: Found) -> Answer
+    ensures { λ r. ⌜ r ≡ decided (unsound f) s ⌝ }
+{
+    if subscription::is_unsound(f) {
+        return Answer::Refused(11);
+    }
+    if s.held {
+        return Answer::Refused(12);
+    }
+    if s.free {
+        return Answer::Granted(s.slot);
+    }
+    Answer::Refused(13)
+}
+
+// No slot is granted.
+fn is_denied(f: Filter, s: Found) -> bool
+    ensures { λ r. ⌜ r ≡ denied (unsound f) s ⌝ }
+{
+    if subscription::is_unsound(f) {
+        return true;
+    }
+    if s.held {
+        return true;
+    }
+    if s.free {
+        return false;
+    }
+    true
+}
+
+// The record that slot k is granted with; its part is zeroed.
+fn prepare(
+    f: Filter,
+    timeout: u32,
+    behaviour: u8,
+    time: u64,
+    store: &mut [u8],
+    k: usize,
+) -> Subscription
+    requires { ⌜ k * 1432 + 1432 ≤ length (now store) ⌝ }
+    ensures { λ r. ⌜ (r ≡ grantedRecord f timeout behaviour time) × (now (store .exit) ≡ cleared k (now (store .entry))) ⌝ }
+{
+    octets::clear_part(store, k * 1432, 1432);
+    subscription::subscribe(f, timeout, behaviour, time)
+}
+
+// Subscribing: the lowest free slot is granted and its part zeroed, or 1, 11, 12, 13.
+pub fn subscribe(
+    t: &mut [Subscription],
+    store: &mut [u8],
+    f: Filter,
+    timeout: u32,
+    behaviour: u8,
+    time: u64,
+) -> Answer
+    ensures { λ r. ⌜ Follows (table.subscribe (record { filter = f; timeout = timeout; behaviour = behaviour }) time) (now (t .entry)) (now (store .entry)) (meaning r) (now (t .exit)) (now (store .exit)) ⌝ }
+{
+    if is_unfit(t.len(), store.len()) {
+        return refusal(t.len(), store.len());
+    }
+    let s = search(t, f);
+    if is_denied(f, s) {
+        return decide(f, s);
+    }
+    let k = s.slot;
+    let r = prepare(f, timeout, behaviour, time, store, k);
+    t[k] = r;
+    decide(f, s)
+}
+
+// The first refusal of 2 to 7; 0 where a datagram passes.
+fn judge(a: Arrival, datagram: &[u8]) -> u8
+    ensures { λ r. ⌜ r ≡ firstOf (pdChecks a (now (datagram .entry))) ⌝ }
+{
+    let r = telegram::judge_datagram(Family::Pd, datagram);
+    if r != 0 {
+        return r;
+    }
+    let c = telegram::read_common(datagram);
+    let counts = TopoCounts {
+        etb_topo_cnt: c.etb_topo_cnt,
+        op_trn_topo_cnt: c.op_trn_topo_cnt,
+    };
+    let local = a.local;
+    if topography::pass(counts, local) {
+        return 0;
+    }
+    7
+}
+
+// A datagram was refused.
+fn is_bad(v: u8) -> bool
+    ensures { λ r. ⌜ r ≡ not (eqb v 0) ⌝ }
+{
+    v != 0
+}
+
+// The refusal with its number.
+fn refuse(v: u8) -> Answer
+    ensures { λ r. ⌜ r ≡ Answer.Refused v ⌝ }
+{
+    Answer::Refused(v)
+}
+
+// A telegram, as the slots hear it.
+fn hear(a: Arrival, datagram: &[u8]) -> Event
+    requires { ⌜ 40 ≤ length (now datagram) ⌝ }
+    ensures { λ r. ⌜ r ≡ Telegram (heardOf a (now (datagram .entry))) ⌝ }
+{
+    let c = telegram::read_common(datagram);
+    let h = Heard {
+        com_id: c.com_id,
+        sender: a.sender,
+        destination: a.destination,
+        counter: c.sequence_counter,
+        time: a.time,
+    };
+    Event::Telegram(h)
+}
+
+// Where a datagram's dataset ends.
+fn dataset_end(datagram: &[u8]) -> usize
+    requires { ⌜ 40 ≤ length (now datagram) ⌝ }
+    ensures { λ r. ⌜ r ≡ endOf (now (datagram .entry)) ⌝ }
+{
+    let c = telegram::read_common(datagram);
+    40 + c.dataset_length as usize
+}
+
+// What a sweep of a telegram answers: how many slots took it, 9 where some match, 8 where none does.
+fn delivered(s: Swept) -> Answer
+    ensures { λ r. ⌜ r ≡ deliveredBy s ⌝ }
+{
+    match s {
+        Swept::Done(t) => {
+            if 0 < t.changed {
+                return Answer::Delivered(t.changed);
+            }
+            if 0 < t.matched {
+                return Answer::Refused(9);
+            }
+            Answer::Refused(8)
+        }
+        Swept::Refused(n) => Answer::Refused(n),
+    }
+}
+
+// A PD datagram arrives: it is judged, and goes to every slot that it matches; or 1 to 9.
+pub fn receive(t: &mut [Subscription], store: &mut [u8], a: Arrival, datagram: &[u8]) -> Answer
+    ensures { λ r. ⌜ Follows (table.telegram a (now (datagram .entry))) (now (t .entry)) (now (store .entry)) (meaning r) (now (t .exit)) (now (store .exit)) ⌝ }
+{
+    if is_unfit(t.len(), store.len()) {
+        return refusal(t.len(), store.len());
+    }
+    let v = judge(a, datagram);
+    if is_bad(v) {
+        return refuse(v);
+    }
+    let ev = hear(a, datagram);
+    let e = dataset_end(datagram);
+    let s = sweep(t, store, ev, &datagram[40..e]);
+    delivered(s)
+}
+
+// A free record.
+fn free() -> Subscription
+    ensures { λ r. ⌜ r ≡ freeRecord ⌝ }
+{
+    subscription::free()
+}
+
+// The record of slot k; a number too large is read as a free slot.
+pub fn slot_at(t: &[Subscription], k: usize) -> Subscription
+    ensures { λ r. ⌜ r ≡ getD (now (t .entry)) k freeRecord ⌝ }
+{
+    if k < t.len() {
+        return t[k];
+    }
+    free()
+}
+
+// What a record shows: 1 where sizes are wrong or it says over 1432, 10 where it is free.
+fn read_record(slots: usize, octets: usize, r: Subscription) -> Reading
+    ensures { λ q. ⌜ q ≡ readBy (fits slots octets) r ⌝ }
+{
+    if is_fit(slots, octets) {
+        if r.used {
+            if 1432 < r.length {
+                return Reading::Refused(1);
+            }
+            return Reading::Shows(View {
+                state: subscription::state_of(r),
+                substitute: subscription::is_substituted(r),
+                length: r.length,
+            });
+        }
+        return Reading::Refused(10);
+    }
+    Reading::Refused(1)
+}
+
+// Reading slot k: its state, and which octets it shows, or 1, 10.
+pub fn read(t: &[Subscription], store: &[u8], k: usize) -> Reading
+    ensures { λ r. ⌜ Reads k (now (t .entry)) (now (store .entry)) r ⌝ }
+{
+    let r = slot_at(t, k);
+    read_record(t.len(), store.len(), r)
+}

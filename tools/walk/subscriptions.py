@@ -1,0 +1,83 @@
+# The functions of the crate `subscriptions`: what each takes, answers and leaves; `hand` where its MIR is walked, with the evidence that the walk cannot find.
+crate='subscriptions'
+# a type: its values, its `By`, its row
+types={'Subscription':('Subscription','subscriptionBy 𝓤 H A W','X.the-row'),'Event':('Event','eventBy 𝓤 H A W','E.the-row'),'Filter':('Filter','filterBy 𝓤 H A W','F.the-row'),'Swept':('Swept','sweptBy 𝓤 H A W','S.the-row'),'Answer':('Answer','answerBy 𝓤 H A W','N.the-row'),'Released':('Released','releasedBy 𝓤 H A W','L.the-row'),'Found':('Found','foundBy 𝓤 H A W','D.the-row'),'Arrival':('Arrival','arrivalBy 𝓤 H A W','P.the-row'),'Reading':('Reading','readingBy 𝓤 H A W','Q.the-row'),
+  'bool':('Bool','boolean 𝓤 H A W','bool'),'u8':('ℕ','unsignedInt 𝓤 H A W w8','u8'),'u32':('ℕ','unsignedInt 𝓤 H A W w32','u32'),'u64':('ℕ','unsignedInt 𝓤 H A W w64','u64'),'usize':('ℕ','unsignedInt 𝓤 H A W w64','usize'),'unit':('Unit {0}','unitBy 𝓤 H A W','unit')}
+structs={'Found':[('bool','held'),('bool','free'),('usize','slot')],'Released':[('Subscription','slot'),('Answer','answer')]}
+none={'Subscription':'freeRecord'}
+uses_specs='''use Rattle.subscriptions.proofs.Values.{subscriptionBy, eventBy, filterBy, sweptBy, answerBy, releasedBy, foundBy, arrivalBy, readingBy}
+use Rattle.subscription.specs.Record.{freeRecord, unsound, grantedRecord}
+use mathlib.Core.Bool.{not}
+use Rattle.subscription.specs.Table.{fits, timeCheck, subscribe, unsubscribe, telegram}
+use Rattle.subscription.specs.declared.Subscription.{Subscription}
+use Rattle.subscription.specs.declared.Event.{Event}
+use Rattle.subscription.specs.declared.Event.the-variants.{Clock, Telegram}
+use lib.Dec.{eqb}
+use Rattle.refusal.specs.Refusal.{firstOf}
+use Rattle.subscription.specs.Slot.{pdChecks, heardOf}
+use Rattle.arrival.specs.declared.Arrival.{Arrival}
+use Rattle.subscriptions.specs.declared.Answer.the-variants.{Refused}
+use Rattle.subscriptions.proofs.Arriving.{payload, has-header, has-dataset, payload-length, dataset-ends, dataset-counts, refused-follows, received-follows}
+use Rattle.subscription.specs.declared.Filter.{Filter}
+use Rattle.subscriptions.specs.declared.Swept.{Swept}
+use Rattle.subscriptions.specs.declared.Answer.{Answer}
+use Rattle.subscriptions.specs.declared.Released.{Released}
+use Rattle.subscriptions.specs.declared.Found.{Found}
+use Rattle.subscriptions.specs.declared.Reading.{Reading}
+use Rattle.subscriptions.specs.Read.{readBy, Reads}
+use Rattle.subscriptions.proofs.Viewing.{reads, not-there}
+use Rattle.subscriptions.specs.Search.{foundIn, noneFound, looked}
+use Rattle.subscriptions.proofs.Searching.{Seen, goes-on, at-end, nearer, small}
+use Rattle.subscriptions.specs.Sweep.{Sweeps}
+use Rattle.subscriptions.specs.Calls.{Follows, meaning, markedBy, deliveredBy, endOf}
+use Rattle.subscriptions.specs.Named.{away, noSlot, cleared, releasedOf, releasedStore, decided, denied}
+use Rattle.subscriptions.proofs.Granting.{request, unfit-follows, denied-follows, slot-there, granted-follows}
+use Rattle.subscriptions.proofs.Slot.{here, away-follows, here-follows}
+use Rattle.subscriptions.proofs.Follow.{sweptAnswer, sweptRecords, sweptStore, check-follows}
+'''
+uses_proofs=''.join('use %s.%s as %s\nuse %s.%s.Laws as %s′\n'%(c,n,k,c,n,k) for c,n,k in (('Rattle.subscription.proofs','Subscription','X'),('Rattle.subscription.proofs','Event','E'),('Rattle.subscription.proofs','Filter','F'),('Rattle.subscriptions.proofs','Swept','S'),('Rattle.subscriptions.proofs','Answer','N'),('Rattle.subscriptions.proofs','Released','L'),('Rattle.subscriptions.proofs','Found','D'),('Rattle.subscription.proofs','Arrival','P'),('Rattle.subscriptions.proofs','Reading','Q')))
+L,ST,D,EV,TIME=('l','slice','Subscription'),('st','slice','u8'),('d','shr','u8'),('ev','plain','Event'),('time','plain','u64')
+K,N1,N2=('k','plain','usize'),('n₁','plain','usize'),('n₂','plain','usize')
+T,F,C,I=('t','shr','Subscription'),('fl','plain','Filter'),('c','plain','Found'),('i','plain','usize')
+at=lambda s:'fl t (%s) (%s) (%s)'%(s.x['vars'][1],s.x['vars'][0],s.x['inv'])
+TM,BH,FS=('tm','plain','u32'),('bh','plain','u8'),('s','plain','Found')
+asked='(request fl tm bh) time l st'
+AR,V=('ar','plain','Arrival'),('v','plain','u8')
+swept=lambda n:'swept%s {ev} {d} {l} {st}'%n
+table={
+ 'clock':dict(params=[TIME],res='Event',w='Clock {time}'),
+ 'marked':dict(params=[('s','plain','Swept')],res='Answer',w='markedBy {s}'),
+ 'sweep':dict(params=[L,ST,EV,D],res='Swept',w=swept('Answer'),last=[swept('Records'),swept('Store')],told=lambda r,l,s:'Sweeps {ev} {d} {l} {st} (%s) (%s) (%s)'%(r,l,s),paths=['e .answers','e .records-after','e .store-after']),
+ 'time_check':dict(root=True,params=[L,ST,TIME],res='Answer',told=lambda r,l,s:'Follows (timeCheck {time}) {l} {st} (meaning (%s)) (%s) (%s)'%(r,l,s),hand=dict(said=lambda s,arm:'check-follows time l st')),
+ 'is_away':dict(params=[N1,N2,K],res='bool',w='away {n₁} {n₂} {k}'),
+ 'refusal':dict(params=[N1,N2],res='Answer',w='noSlot {n₁} {n₂}'),
+ 'release':dict(params=[('x','plain','Subscription'),ST,K],res='Released',w='releasedOf {x}',last=['releasedStore {x} {k} {st}'],requires='{k} * 1432 + 1432 ≤ length {st}'),
+ 'unsubscribe':dict(root=True,params=[L,ST,K],res='Answer',told=lambda r,l,s:'Follows (unsubscribe {k}) {l} {st} (meaning (%s)) (%s) (%s)'%(r,l,s),
+   hand=dict(said=lambda s,arm:'away-follows l st k yes₁' if arm=='yes₁' else 'here-follows l st k no₁',within=lambda s,p,k:'here l st k no₁ .0',requires=lambda s,g,n:'here l st k no₁ .1')),
+ 'nothing':dict(params=[],res='Found',w='noneFound'),
+ 'look':dict(params=[C,('x','plain','Subscription'),F,I],res='Found',w='looked {fl} {i} {x} {c}'),
+ 'search':dict(params=[T,F],res='Found',w='foundIn {fl} {t}',hand=dict(
+   inv=lambda c,z:'Seen fl t %s %s'%(c[1],c[0]),start='refl',measure=lambda c,i:'length t - '+i,less=lambda s:'nearer (%s) (length t) yes'%s.x['vars'][1],
+   next=lambda s:'goes-on %s yes'%at(s),end=lambda s:'at-end %s no'%at(s),fits=lambda s,op,a,b:'record { fits = small (%s) (length t) yes (t-room .0) }'%s.x['vars'][1],
+   within=lambda s,p,k:'ltb-true (%s) (length t) yes'%s.x['vars'][1])),
+ 'is_unfit':dict(params=[N1,N2],res='bool',w='not (fits {n₁} {n₂})'),
+ 'decide':dict(params=[F,FS],res='Answer',w='decided (unsound {fl}) {s}'),
+ 'is_denied':dict(params=[F,FS],res='bool',w='denied (unsound {fl}) {s}'),
+ 'prepare':dict(params=[F,TM,BH,TIME,ST,K],res='Subscription',w='grantedRecord {fl} {tm} {bh} {time}',last=['cleared {k} {st}'],requires='{k} * 1432 + 1432 ≤ length {st}'),
+ 'subscribe':dict(root=True,params=[L,ST,F,TM,BH,TIME],res='Answer',told=lambda r,l,s:'Follows (subscribe (request {fl} {tm} {bh}) {time}) {l} {st} (meaning (%s)) (%s) (%s)'%(r,l,s),
+   hand=dict(said=lambda s,arm:{'yes₁':'unfit-follows (subscribe (request fl tm bh) time) l st yes₁','yes₂':'denied-follows %s no₁ yes₂'%asked}.get(arm,'granted-follows %s no₁ no₂'%asked),
+     within=lambda s,p,k:'slot-there %s no₁ no₂ .0'%asked,requires=lambda s,g,n:'slot-there %s no₁ no₂ .1'%asked)),
+ 'judge':dict(params=[AR,D],res='u8',w='firstOf (pdChecks {ar} {d})'),
+ 'is_bad':dict(params=[V],res='bool',w='not (eqb {v} 0)'),
+ 'refuse':dict(params=[V],res='Answer',w='Refused {v}'),
+ 'hear':dict(params=[AR,D],res='Event',w='Telegram (heardOf {ar} {d})',requires='40 ≤ length {d}'),
+ 'dataset_end':dict(params=[D],res='usize',w='endOf {d}',requires='40 ≤ length {d}'),
+ 'delivered':dict(params=[('s','plain','Swept')],res='Answer',w='deliveredBy {s}'),
+ 'receive':dict(root=True,params=[L,ST,AR,D],res='Answer',told=lambda r,l,s:'Follows (telegram {ar} {d}) {l} {st} (meaning (%s)) (%s) (%s)'%(r,l,s),
+   hand=dict(said=lambda s,arm:{'yes₁':'unfit-follows (telegram ar d) l st yes₁','yes₂':'refused-follows ar d l st no₁ yes₂'}.get(arm,'received-follows ar d l st no₂'),requires=lambda s,g,n:'has-header ar d no₂',
+     **{'from':lambda s,p,k:'has-header ar d no₂','less-by':lambda s,a,b:('dataset-ends d','record { fits = dataset-counts ar d no₂ (d-room .0) }'),'part':lambda s,p,k,n:'payload ar d','part-length':lambda s,p,k,n:'payload-length ar d no₂'})),
+ 'free':dict(params=[],res='Subscription',w='freeRecord'),
+ 'slot_at':dict(params=[T,K],res='Subscription',w='getD {t} {k} freeRecord',hand=dict(within=lambda s,p,k:'ltb-true k (length t) yes₁',said=lambda s,arm:'refl' if arm=='yes₁' else 'not-there t k no₁')),
+ 'read_record':dict(params=[N1,N2,('x','plain','Subscription')],res='Reading',w='readBy (fits {n₁} {n₂}) {x}'),
+ 'read':dict(root=True,params=[T,('so','shr','u8'),K],res='Reading',told=lambda r:'Reads {k} {t} {so} (%s)'%r,hand=dict(said=lambda s,arm:'reads k t so')),
+}
