@@ -35,7 +35,7 @@ use Rattle.subscriptions.proofs.Granting.{request, unfit-follows, denie
 use Rattle.subscriptions.proofs.Slot.{here, away-follows, here-follows}
 use Rattle.subscriptions.proofs.Follow.{sweptAnswer, sweptRecords, sweptStore, check-follows}
 '''
-uses_proofs=''.join('use %s.%s as %s\nuse %s.%s.Laws as %s′\n'%(c,n,k,c,n,k) for c,n,k in (('Rattle.subscription.proofs','Subscription','X'),('Rattle.subscription.proofs','Event','E'),('Rattle.subscription.proofs','Filter','F'),('Rattle.subscriptions.proofs','Swept','S'),('Rattle.subscriptions.proofs','Answer','N'),('Rattle.subscriptions.proofs','Released','L'),('Rattle.subscriptions.proofs','Found','D'),('Rattle.subscription.proofs','Arrival','P'),('Rattle.subscriptions.proofs','Reading','Q')))
+uses_proofs=''.join('use %s.%s as %s\nuse %s.%s.Laws as %s′\n'%(c,n,k,c,n,k) for c,n,k in (('Rattle.subscription.proofs','Subscription','X'),('Rattle.subscription.proofs','Event','E'),('Rattle.subscription.proofs','Filter','F'),('Rattle.subscriptions.proofs','Swept','S'),('Rattle.subscriptions.proofs','Answer','N'),('Rattle.subscriptions.proofs','Released','L'),('Rattle.subscriptions.proofs','Found','D'),('Rattle.arrival.proofs','Arrival','P'),('Rattle.subscriptions.proofs','Reading','Q')))
 L,ST,D,EV,TIME=('l','slice','Subscription'),('st','slice','u8'),('d','shr','u8'),('ev','plain','Event'),('time','plain','u64')
 K,N1,N2=('k','plain','usize'),('n₁','plain','usize'),('n₂','plain','usize')
 T,F,C,I=('t','shr','Subscription'),('fl','plain','Filter'),('c','plain','Found'),('i','plain','usize')
