@@ -109,7 +109,7 @@ s=W(locs(N)+["toks","owns"]); s.fat={1,2,3,4}
 s.assign(10,"of-opd ! "+s.F(1,1),"(tt, record { fits = room .0 })")
 s.assign(11,"of-opd ! "+s.F(2,1),"(tt, record { fits = room₂ .0 })")
 byvalue(s,"h","head","(vint w64 (length xs) ∷ vint w64 (length st) ∷ [])",[10,11],5,"(UInt w64)","ℕ","n","(uint-lawful 𝓤 H A W w64 .typed r _ is .0)","(uint-tells w64 r (v ∷ []) is)","vint w64 z","r","v","e","is")
-byvalue(s,"b₀","begins","(ev ∷ [])",[3],6,"(by′ .R)","Y","y₀","(by′ .typed y u is₂)","(by′ .tells y (u ∷ []) is₂)","yv z","y","u","e₂","is₂")
+byvalue(s,"b₀","begins","[]",[],6,"(by′ .R)","Y","y₀","(by′ .typed y u is₂)","(by′ .tells y (u ∷ []) is₂)","yv z","y","u","e₂","is₂")
 s.e("from-here (subst (λ (m : Y). Is (by′ .R) m (yv m ∷ [])) e₂ (subst (λ (us : List Val). Is (by′ .R) y us) (by′ .tells y (u ∷ []) is₂) is₂))")
 begun=close(s.text(8))
 here_items=items({**start_vals,5:"vint w64 n",6:"yv y₀",10:"vint w64 (length xs)",11:"vint w64 (length st)"})

@@ -26,7 +26,7 @@ def ty(t):
     if isinstance(t,str): return t
     if t[0]=='tyInt': return 'tyInt w'+t[1]
     if t[0]=='tyArray': return 'tyArray (%s) %s'%(ty(t[1]),t[2][1])
-    if t[0]=='tyRef' and t[3][0]=='tyArray': return 'tyRef erased %s (%s)'%(t[2],ty(t[3]))
+    if t[0]=='tyRef' and t[3][0]=='tyArray': return 'tyRef %s %s (%s)'%('erased' if t[1]=='erased' else '(named %s)'%t[1][1],t[2],ty(t[3]))
     if t[0]=='tyNamed': return ROW[t[1][1].split('::')[-1]][0]+'′.mir'
     if t[0]=='tyRef': return 'tyRef %s %s (pointee (%s .written))'%('erased' if t[1]=='erased' else '(named %s)'%t[1][1],t[2],row(t[3]))
     if t[0]=='tyStruct': return 'sliceTy (%s)'%ty(lst(t[2])[0])
@@ -182,7 +182,9 @@ class Auto(Fn):
                 s.move(a,b); s.head(2,['both'],'join ! $')
             loans=lambda q: s.loan(lent[q],q) if q==len(lent)-1 else '(both-lent 𝓤 H A W %s %s)'%(s.loan(lent[q],q),loans(q+1))
             L=loans(0)
+            if 'tells' in c: L='(telling 𝓤 H A %s (λ v v′. %s))'%(L,fill(c['tells'][0]))
             s.e('asks%s ! %s %s (%s) %s (λ _ _. %s) (λ %s %s.'%('-last' if last else '',s.fm,L,B,known,s.ops([o[0](1) for o in os]),is_,fit))
+        if 'tells' in c: s.tells=fit+' .1'; fit+=' .0'
         s.v[d]=('by',c['res'],w,is_)
         s.e('land%s ! (from ! (stop !)) %s $'%('-last' if last else '',s.put(d,s.typed(s.v[d]))))
         for q in range(len(lent)-1):

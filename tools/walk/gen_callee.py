@@ -4,7 +4,7 @@ sys.path.insert(0, os.path.dirname(os.path.abspath(__file__)))
 from walkgen import *
 B={}
 ROW={}
-def gen(crate,fn,params,res,w,lasts,said,path_w,requires=None,uses=''):
+def gen(crate,fn,params,res,w,lasts,said,path_w,requires=None,uses='',at=None,tells=None):
     # params: (name, kind, type); lasts: for each reference, in order: (new value, path in e); said: text with r and zs
     X=''.join(p.capitalize() for p in fn.split('_'))
     key='#g'
@@ -39,6 +39,7 @@ def gen(crate,fn,params,res,w,lasts,said,path_w,requires=None,uses=''):
         return 'ref-lent 𝓤 H A W (%s) (named %d) %s-κ %s-q %s-γ %s-b %s-o'%((ROW[p[2]],refs.index(p))+(p[0],)*5)
     def loans(xs): return xs[0] if len(xs)==1 else 'both-lent 𝓤 H A W (%s) (%s)'%(xs[0],loans(xs[1:]))
     L='none-lent 𝓤 H A W' if nl==0 else loans([loan(p) for p in refs])
+    if tells: L='telling 𝓤 H A (%s) (λ v v′. %s)'%(L,tells[0])
     it=iter(lasts); lasts=[(p[0],'refl') if p[1]=='shr' else next(it) for p in refs]
     v='tt' if nl==0 else nest([p[0] for p in refs])
     v2='tt' if nl==0 else nest([x[0] for x in lasts])
@@ -88,6 +89,7 @@ def gen(crate,fn,params,res,w,lasts,said,path_w,requires=None,uses=''):
         t.move('toks'); t.head(1,['t%d'%i,'toks'],'split ! $')
     fit=lambda i: {'slice':'l%d'%i,'ref':'tt','shr':'refl'}[refs[i][1]]
     fitsT='tt' if nl==0 else nest([fit(i) for i in range(nl)])
+    if tells: fitsT='(%s, %s)'%(fitsT,tells[1])
     def pairs(xs): return xs[0] if len(xs)==1 else 'pair-is (%s) (%s)'%(xs[0],pairs(xs[1:]))
     v2eq='refl' if nl==0 else pairs([x[1] for x in lasts])
     zval='tt' if nl==0 else nest([zpath(p) for p in refs])
@@ -136,11 +138,11 @@ use denote.Triple.Spec.{tripleOf}
 use denote.Triple.Statement.{Contract, Triple}
 use denote.Triple.Clauses.{ensured, lasts}
 use denote.Triple.Walked.{says}
-use Rattle·%(crate)s·proofs.proofs.ByValue.{unsignedInt, boolean, unitBy}
-use Rattle·%(crate)s·proofs.proofs.Steps.{Call, none-lent, both-lent, slice-lent, ref-lent, shr-lent, pair-is}
+use Rattle.walks.proofs.ByValue.{unsignedInt, boolean, unitBy}
+use Rattle.walks.proofs.Steps.{Call, none-lent, both-lent, slice-lent, ref-lent, shr-lent, pair-is}
 %(uses)s
-use Rattle·%(crate)s·proofs.proofs.%(fn)s as callee
-use Rattle·%(crate)s·proofs.proofs.%(fn)s.Symbol.{name as #g}
+use %(at)s.%(fn)s as callee
+use %(at)s.%(fn)s.Symbol.{name as #g}
 
 module _ {M : Type 1} (𝓤 : URA M) (H : Heap 𝓤) (A : Atoms 𝓤) (W : Given 𝓤 H A) (mem : Memory → SProp 𝓤) (run : Routine → Fun 𝓤) where
   abbrev pub G : Contract 𝓤
@@ -173,6 +175,6 @@ module _ {M : Type 1} (𝓤 : URA M) (H : Heap 𝓤) (A : Atoms 𝓤) (W : Given
 
     pub called : Call 𝓤 H A C #g (%(flat)s) (%(L)s) (%(Bres)s) (%(v)s) (%(v2)s) (%(w)s)
     called = record { Q = λ n. G .post (to n); goes = λ n. via 𝓤 (G .pre (to n)) (goes n) (known (to n)); gives = gives }
-'''%dict(locals(),items=grp(items)+' ∷ []' if nl else '[]',
+'''%dict(locals(),at=at or 'Rattle.%s.proofs'%crate,items=grp(items)+' ∷ []' if nl else '[]',
         Y='Unit {0}' if nl==0 else nestT([den(p) for p in refs]))
     return X,out

@@ -95,6 +95,8 @@ class Fn(W):
         g.head(0,['r'],'owned ! (%s .R) (Is (%s .R)) (%s .makes) r _ r-is $'%((s.b(s.res),)*3)); g.move('e','r'); g.e('done !')
         return ' '.join(g.out)
     requires=None
+    of={}          # the crate of a callee that stands in another one
+    here=[]        # those of them whose AsX stands in this one
     def file(s,pre='',helpers=''):
         c=s.crate; nl=len(s.refs)
         muts=[p for p in s.refs if p[1]!='shr']
@@ -138,7 +140,8 @@ class Fn(W):
         body=('\n'+' '*10).join(s.out)
         bare="\n".join(x for x in body.split("\n") if not x.strip().startswith("--"))
         body+=')'*(bare.count('(')-bare.count(')'))
-        uses=''.join('use Rattle.%s.proofs.As%s as As%s\nuse Rattle.%s.proofs.%s.Symbol as %s-def\nuse Rattle.%s.proofs.%s.Symbol.{name as #%s}\nuse Rattle.%s.proofs.%s.Met as %s-thm\n'%(c,X(f),X(f),c,f,dn(f),c,f,dn(f),c,f,dn(f)) for f in s.callees)
+        mod=lambda f:'Rattle.%s.proofs'%s.of[f] if f in s.of else 'Rattle.%s.proofs'%c
+        uses=''.join('use {4}.As{1} as As{1}\nuse {0}.{2}.Symbol as {3}-def\nuse {0}.{2}.Symbol.{{name as #{3}}}\nuse {0}.{2}.Met as {3}-thm\n'.format(mod(f),X(f),f,dn(f),'Rattle.%s.proofs'%c if f in s.here else mod(f)) for f in s.callees)
         dash=s.fn.replace('_','-')
         return '''-- `%s::%s` meets its contract: a walk of its MIR, by the laws of `Steps.antt`. Written by tools/walk.
 -- Assumes nothing.
@@ -185,8 +188,8 @@ use denote.Triple.Statement.{Triple}
 use denote.Triple.Table.{entered, cited}
 use denote.Triple.Walked.{says, needs, Stays, stay-slice, stay-ref, stay-none, stay-none-slice, walkOf, goes-slice, goes-ref, goes-none, goes-none-slice, Walks, ends-at, walked, walk-meets}
 use denote.Exit.{yes}
-use Rattle.%s.proofs.ByValue.{boolean, unsignedInt, unitBy}
-use Rattle.%s.proofs.Steps.{none-lent, both-lent, slice-lent, ref-lent, shr-lent, slice-own, ref-own, shr-own, asks, asks-last, asks-plain, asks-plain-last, meets-again, guards, Turned, rounds, goes-round, tests, loads-ref, stores-ref, loads-elem, stores-elem, looks-elem, has-none, shows-slice, hides-slice, begins-at, begins-is, takes-octets, gives-octets, frees-all}
+use Rattle.walks.proofs.ByValue.{boolean, unsignedInt, unitBy}
+use Rattle.walks.proofs.Steps.{none-lent, both-lent, slice-lent, ref-lent, shr-lent, slice-own, ref-own, shr-own, asks, asks-last, asks-plain, asks-plain-last, meets-again, guards, Turned, rounds, goes-round, tests, loads-ref, stores-ref, loads-elem, stores-elem, looks-elem, has-none, shows-slice, hides-slice, begins-at, begins-is, takes-octets, gives-octets, frees-all}
 %s%suse Rattle.%s.proofs.%s.Key.{name as #f}
 use Rattle.%s.proofs.%s as f
 use Rattle.%s.proofs.%s.Statement as stated
@@ -250,7 +253,7 @@ unfolding code.routine tablesOf
     entered 𝓤 H (tripleOf 𝓤 H (𝓖 .A) f.signature (f.spec 𝓤 H (𝓖 .A) (𝓜 .mem) (𝓡 .run)))
     (tables 𝓤 H 𝓜 𝓡 code.env .C) (tables 𝓤 H 𝓜 𝓡 code.env .Λ) #f code.function (code.unfolded 𝓤 H 𝓜 𝓡)
     (meets 𝓤 H (𝓖 .A) (givenOf 𝓤 H 𝓜 𝓖) (𝓜 .mem) (𝓡 .run) (tablesOf 𝓤 H 𝓜 (tables 𝓤 H 𝓜 𝓡 code.env))%s)
-'''%(c,s.fn,c,c,uses,s.uses,c,s.fn,c,s.fn,c,s.fn,c,s.fn,c,s.fn,
+'''%(c,s.fn,uses,s.uses,c,s.fn,c,s.fn,c,s.fn,c,s.fn,c,s.fn,
      tup([stay[p[1]](p) for p in s.params]),pre,
      binders,tupT([s.argT(p) for p in s.params]),tup([s.arg(p) for p in s.params]),
      tup([p[0]+'-κ' for p in s.refs]),tup([p[0]+'-q' for p in s.refs]),tup([s.mach(p)+' ∷ []' for p in s.params]),
@@ -261,7 +264,7 @@ unfolding code.routine tablesOf
      ' '.join('alloc1 ! (λ %s.'%l(i) for i in range(s.N)),
      kn,tup([vals[p[1]](p) for p in s.params]),tup([tells[p[1]](p) for p in s.params]),('needs 𝓤 (%s) _ (λ ok. walk%s ok 𝓣%s)'%(atarg(s.requires),inst,kns) if s.requires else 'via 𝓤 _ (fst∗ 𝓤 _ (emp 𝓤)) (walk%s 𝓣%s)'%(inst,kns)),
      tup([goes[p[1]](p) for p in s.params]),dash,dash,
-     ''.join('\n    (cited 𝓤 H (As%s.G 𝓤 H (𝓖 .A) (givenOf 𝓤 H 𝓜 𝓖) (𝓜 .mem) (𝓡 .run)) 𝓜 𝓡 code.env #%s %s-def.routine code.calls-%s·%s (%s-thm.met 𝓤 H 𝓜 𝓖 𝓡))'%(X(f),dn(f),dn(f),c,dn(f),dn(f)) for f in s.callees))
+     ''.join('\n    (cited 𝓤 H (As%s.G 𝓤 H (𝓖 .A) (givenOf 𝓤 H 𝓜 𝓖) (𝓜 .mem) (𝓡 .run)) 𝓜 𝓡 code.env #%s %s-def.routine code.calls-%s·%s (%s-thm.met 𝓤 H 𝓜 𝓖 𝓡))'%(X(f),dn(f),dn(f),s.of.get(f,c),dn(f),dn(f)) for f in s.callees))
     def begins(s):
         # the context once the parameters are stored and the references taken out
         out=['(%s)'%s.holds(p) for p in s.refs]

@@ -1,5 +1,5 @@
 # make.py TABLE [NAME..]: from one table of a crate's functions writes, for each, proofs/AsX.antt (the function as a callee) and, where it has `hand`, proofs/X/Proof.antt: a walk of its MIR. Run in the repository's root.
-# The contract of each is `(r ≡ w) × ((first reference's last value ≡ ..) × ..)`, the result's part left out where it is `()`.
+# The contract of each is `(r ≡ w) × ((first reference's last value ≡ ..) × ..)`, the result's part left out where it is `()`. A callee of another crate names it by `of`; its AsX stands there, or here where the table says `here`. `tells`: a fact of the values v before and v′ after the call, kept beside the equations, and where the contract has it.
 import sys, os, re, importlib.util, subprocess
 here=os.path.dirname(os.path.abspath(__file__)); sys.path.insert(0,here)
 spec=importlib.util.spec_from_file_location('tab',sys.argv[1]); tab=importlib.util.module_from_spec(spec); spec.loader.exec_module(tab)
@@ -26,7 +26,8 @@ def callee(f):
     cs=comps(f,'r',z); m=len(cs); k=1 if d['res']!='unit' else 0
     lasts=[(own(x),path(j+k,m)) for j,x in enumerate(d.get('last',[]))]
     if 'paths' in d: lasts=[(own(x),q) for x,q in zip(d.get('last',[]),d['paths'][1:])]
-    X,o=gen_callee.gen(crate,f,ps,d['res'],own(d['w']),lasts,told(f,'r',z),d['paths'][0] if 'paths' in d else path(0,m) if k else 'refl',requires=own(d['requires']) if d.get('requires') else None,uses=tab.uses_specs)
+    of=d.get('of',crate)
+    X,o=gen_callee.gen(of,f,ps,d['res'],own(d['w']),lasts,told(f,'r',z),d['paths'][0] if 'paths' in d else path(0,m) if k else 'refl',requires=own(d['requires']) if d.get('requires') else None,uses=tab.uses_specs,at='Rattle.%s.proofs'%of if 'of' in d else None,tells=tuple(map(own,d['tells'])) if 'tells' in d else None)
     p='crates/%s/proofs/As%s.antt'%(crate,X); open(p,'w').write(o)
     lib='crates/%s/proofs/Lib.antt'%crate; t=open(lib).read()
     if 'pub mod As%s\n'%X not in t: open(lib,'a').write('pub mod As%s\n'%X)
@@ -44,10 +45,12 @@ def walk(f):
             for y in x: find(y)
     find(b); os.makedirs('crates/%s/proofs/%s'%(crate,f),exist_ok=True)
     w=auto_walk.Auto(crate,f,d['params'],d['res'],told(f,'r',lambda p:p[0]+'′'),cs,tab.table,tab.structs,tab.uses_specs+tab.uses_proofs,h)
+    w.of={g:tab.table[g]['of'] for g in cs if 'of' in tab.table[g]}
+    w.here=[g for g in w.of if tab.table[g].get('here')]
     if d.get('requires'): w.requires=own(d['requires'])
     w.go(d.get('pre',''))
 names=sys.argv[2:] or list(tab.table)
 open('target/mir.out','w').write(subprocess.run(['rt','mir',crate],capture_output=True,text=True).stdout)
 for f in names:
-    if not tab.table[f].get('root'): callee(f)
+    if not (tab.table[f].get('root') or tab.table[f].get('of') and not tab.table[f].get('here')): callee(f)
     if 'hand' in tab.table[f]: walk(f)

@@ -1,7 +1,7 @@
 # The functions of the crate `subscriptions`: what each takes, answers and leaves; `hand` where its MIR is walked, with the evidence that the walk cannot find.
 crate='subscriptions'
 # a type: its values, its `By`, its row
-types={'Subscription':('Subscription','subscriptionBy 𝓤 H A W','X.the-row'),'Event':('Event','eventBy 𝓤 H A W','E.the-row'),'Filter':('Filter','filterBy 𝓤 H A W','F.the-row'),'Swept':('Swept','sweptBy 𝓤 H A W','S.the-row'),'Answer':('Answer','answerBy 𝓤 H A W','N.the-row'),'Released':('Released','releasedBy 𝓤 H A W','L.the-row'),'Found':('Found','foundBy 𝓤 H A W','D.the-row'),'Arrival':('Arrival','arrivalBy 𝓤 H A W','P.the-row'),'Reading':('Reading','readingBy 𝓤 H A W','Q.the-row'),
+types={'Subscription':('Subscription','subscriptionBy 𝓤 H A W','X.the-row'),'Event':('Event','eventBy 𝓤 H A W','E.the-row'),'Filter':('Filter','filterBy 𝓤 H A W','F.the-row'),'Swept':('Swept','sweptBy 𝓤 H A W','S.the-row'),'Answer':('Answer','answerBy 𝓤 H A W','N.the-row'),'Released':('Released','releasedBy 𝓤 H A W','L.the-row'),'Found':('Found','foundBy 𝓤 H A W','D.the-row'),'Arrival':('Arrival','arrivalBy 𝓤 H A W','P.the-row'),'Reading':('Reading','readingBy 𝓤 H A W','Q.the-row'),'Statistics':('Statistics','statisticsBy 𝓤 H A W','Z.the-row'),'Family':('Family','familyBy 𝓤 H A W','Y.the-row'),
   'bool':('Bool','boolean 𝓤 H A W','bool'),'u8':('ℕ','unsignedInt 𝓤 H A W w8','u8'),'u32':('ℕ','unsignedInt 𝓤 H A W w32','u32'),'u64':('ℕ','unsignedInt 𝓤 H A W w64','u64'),'usize':('ℕ','unsignedInt 𝓤 H A W w64','usize'),'unit':('Unit {0}','unitBy 𝓤 H A W','unit')}
 structs={'Found':[('bool','held'),('bool','free'),('usize','slot')],'Released':[('Subscription','slot'),('Answer','answer')]}
 none={'Subscription':'freeRecord'}
@@ -18,6 +18,13 @@ use Rattle.subscription.specs.Slot.{pdChecks, heardOf}
 use Rattle.arrival.specs.declared.Arrival.{Arrival}
 use Rattle.subscriptions.specs.declared.Answer.the-variants.{Refused}
 use Rattle.subscriptions.proofs.Arriving.{payload, has-header, has-dataset, payload-length, dataset-ends, dataset-counts, refused-follows, received-follows}
+use Rattle.statistics.proofs.Values.{statisticsBy, familyBy}
+use Rattle.statistics.specs.Statistics.{added}
+use Rattle.statistics.specs.declared.Statistics.{Statistics}
+use Rattle.telegram.specs.declared.Family.{Family}
+use Rattle.telegram.specs.declared.Family.the-variants.{Pd}
+use Rattle.subscriptions.specs.Receive.{Receives, uncounted, outcomeOf}
+use Rattle.subscriptions.proofs.Recording.{deliveredAnswer, deliveredRecords, deliveredStore, answered, uncounted-receives, counted-receives}
 use Rattle.subscription.specs.declared.Filter.{Filter}
 use Rattle.subscriptions.specs.declared.Swept.{Swept}
 use Rattle.subscriptions.specs.declared.Answer.{Answer}
@@ -35,14 +42,15 @@ use Rattle.subscriptions.proofs.Granting.{request, unfit-follows, denie
 use Rattle.subscriptions.proofs.Slot.{here, away-follows, here-follows}
 use Rattle.subscriptions.proofs.Follow.{sweptAnswer, sweptRecords, sweptStore, check-follows}
 '''
-uses_proofs=''.join('use %s.%s as %s\nuse %s.%s.Laws as %s′\n'%(c,n,k,c,n,k) for c,n,k in (('Rattle.subscription.proofs','Subscription','X'),('Rattle.subscription.proofs','Event','E'),('Rattle.subscription.proofs','Filter','F'),('Rattle.subscriptions.proofs','Swept','S'),('Rattle.subscriptions.proofs','Answer','N'),('Rattle.subscriptions.proofs','Released','L'),('Rattle.subscriptions.proofs','Found','D'),('Rattle.arrival.proofs','Arrival','P'),('Rattle.subscriptions.proofs','Reading','Q')))
+uses_proofs=''.join('use %s.%s as %s\nuse %s.%s.Laws as %s′\n'%(c,n,k,c,n,k) for c,n,k in (('Rattle.subscription.proofs','Subscription','X'),('Rattle.subscription.proofs','Event','E'),('Rattle.subscription.proofs','Filter','F'),('Rattle.subscriptions.proofs','Swept','S'),('Rattle.subscriptions.proofs','Answer','N'),('Rattle.subscriptions.proofs','Released','L'),('Rattle.subscriptions.proofs','Found','D'),('Rattle.arrival.proofs','Arrival','P'),('Rattle.subscriptions.proofs','Reading','Q'),('Rattle.statistics.proofs','Statistics','Z'),('Rattle.telegram.proofs','Family','Y')))
 L,ST,D,EV,TIME=('l','slice','Subscription'),('st','slice','u8'),('d','shr','u8'),('ev','plain','Event'),('time','plain','u64')
 K,N1,N2=('k','plain','usize'),('n₁','plain','usize'),('n₂','plain','usize')
 T,F,C,I=('t','shr','Subscription'),('fl','plain','Filter'),('c','plain','Found'),('i','plain','usize')
 at=lambda s:'fl t (%s) (%s) (%s)'%(s.x['vars'][1],s.x['vars'][0],s.x['inv'])
 TM,BH,FS=('tm','plain','u32'),('bh','plain','u8'),('s','plain','Found')
 asked='(request fl tm bh) time l st'
-AR,V=('ar','plain','Arrival'),('v','plain','u8')
+AR,V,SS=('ar','plain','Arrival'),('v','plain','u8'),('ss','ref','Statistics')
+gone=lambda n:'delivered%s {ar} {d} {l} {st}'%n
 swept=lambda n:'swept%s {ev} {d} {l} {st}'%n
 table={
  'clock':dict(params=[TIME],res='Event',w='Clock {time}'),
@@ -62,7 +70,7 @@ table={
    within=lambda s,p,k:'ltb-true (%s) (length t) yes'%s.x['vars'][1])),
  'is_unfit':dict(params=[N1,N2],res='bool',w='not (fits {n₁} {n₂})'),
  'decide':dict(params=[F,FS],res='Answer',w='decided (unsound {fl}) {s}'),
- 'is_denied':dict(params=[F,FS],res='bool',w='denied (unsound {fl}) {s}'),
+ 'is_denied':dict(params=[('x','plain','Answer')],res='bool',w='denied {x}'),
  'prepare':dict(params=[F,TM,BH,TIME,ST,K],res='Subscription',w='grantedRecord {fl} {tm} {bh} {time}',last=['cleared {k} {st}'],requires='{k} * 1432 + 1432 ≤ length {st}'),
  'subscribe':dict(root=True,params=[L,ST,F,TM,BH,TIME],res='Answer',told=lambda r,l,s:'Follows (subscribe (request {fl} {tm} {bh}) {time}) {l} {st} (meaning (%s)) (%s) (%s)'%(r,l,s),
    hand=dict(said=lambda s,arm:{'yes₁':'unfit-follows (subscribe (request fl tm bh) time) l st yes₁','yes₂':'denied-follows %s no₁ yes₂'%asked}.get(arm,'granted-follows %s no₁ no₂'%asked),
@@ -73,9 +81,14 @@ table={
  'hear':dict(params=[AR,D],res='Event',w='Telegram (heardOf {ar} {d})',requires='40 ≤ length {d}'),
  'dataset_end':dict(params=[D],res='usize',w='endOf {d}',requires='40 ≤ length {d}'),
  'delivered':dict(params=[('s','plain','Swept')],res='Answer',w='deliveredBy {s}'),
- 'receive':dict(root=True,params=[L,ST,AR,D],res='Answer',told=lambda r,l,s:'Follows (telegram {ar} {d}) {l} {st} (meaning (%s)) (%s) (%s)'%(r,l,s),
+ 'deliver':dict(params=[L,ST,AR,D],res='Answer',w=gone('Answer'),last=[gone('Records'),gone('Store')],paths=['answered ar d l st r (e .answers)','e .records-after','e .store-after'],told=lambda r,l,s:'Follows (telegram {ar} {d}) {l} {st} (meaning (%s)) (%s) (%s)'%(r,l,s),
    hand=dict(said=lambda s,arm:{'yes₁':'unfit-follows (telegram ar d) l st yes₁','yes₂':'refused-follows ar d l st no₁ yes₂'}.get(arm,'received-follows ar d l st no₂'),requires=lambda s,g,n:'has-header ar d no₂',
      **{'from':lambda s,p,k:'has-header ar d no₂','less-by':lambda s,a,b:('dataset-ends d','record { fits = dataset-counts ar d no₂ (d-room .0) }'),'part':lambda s,p,k,n:'payload ar d','part-length':lambda s,p,k,n:'payload-length ar d no₂'})),
+ 'is_uncounted':dict(params=[('x','plain','Answer')],res='bool',w='uncounted (meaning {x})'),
+ 'outcome_of':dict(params=[('x','plain','Answer')],res='u8',w='outcomeOf (meaning {x})'),
+ 'record':dict(of='statistics',params=[SS,('fm','plain','Family'),('o','plain','u8')],res='unit',w='tt',last=['added {fm} {o} {ss}']),
+ 'receive':dict(root=True,params=[L,ST,SS,AR,D],res='Answer',told=lambda r,l,s,z:'Receives {ar} {d} {l} {st} {ss} (meaning (%s)) (%s) (%s) (%s)'%(r,l,s,z),
+   hand=dict(made=lambda s,d,os,vs:('by','Family','Pd','EL.owes Y.the-type Y′.the-laws Pd tt'),said=lambda s,arm:'uncounted-receives ar d l st ss yes₁' if arm=='yes₁' else 'counted-receives ar d l st ss no₁')),
  'free':dict(params=[],res='Subscription',w='freeRecord'),
  'slot_at':dict(params=[T,K],res='Subscription',w='getD {t} {k} freeRecord',hand=dict(within=lambda s,p,k:'ltb-true k (length t) yes₁',said=lambda s,arm:'refl' if arm=='yes₁' else 'not-there t k no₁')),
  'read_record':dict(params=[N1,N2,('x','plain','Subscription')],res='Reading',w='readBy (fits {n₁} {n₂}) {x}'),

@@ -1,4 +1,6 @@
 // Hexadecimal, capitals only: digits read as numbers and octets, and written.
+pub mod frame;
+
 ghost use mathlib.Core.Path.{_≡_};
 ghost use mathlib.Core.Bool.{true};
 ghost use Prim.Native.Nat.{_+_, _*_, _/_, _<_, _≤_, max};

@@ -7,6 +7,9 @@ use Rattle.fcs.specs.Fcs.{bit, bits, crc32}
 use Rattle.subscription.specs.Record.{fresh}
 use Rattle.telegram.specs.Telegram.{padded}
 use Rattle.topography.specs.Topography.{passes}
+use Rattle.dataset.specs.Walk.{Walked, walked, wholeOf}
+use Rattle.dataset.specs.declared.Form.{Form}
+use Rattle.dataset.specs.declared.Form.the-variants.{Wire, Host}
 
 -- a question that a definition answers
 pub data Question : Type 0 where
@@ -16,11 +19,18 @@ pub data Question : Type 0 where
   topography : ℕ → ℕ → ℕ → ℕ → Question
   -- the counter last taken from a sender, and the one that comes
   freshAfter : ℕ → ℕ → Question
+  -- octets in one form, of dataset 1001: a UINT8, and as many UINT16 as it says
+  dataset1001 : Form → List ℕ → Question
 
 -- its answer
 pub data Answer : Type 0 where
   number : ℕ → Answer
   holds : Bool → Answer
+  walks : Walked → Answer
+
+-- 1001 = (UINT8, 1), (UINT16, 0)
+abbrev pub run1001 : List ℕ
+run1001 = 1001 ∷ 2 ∷ 8 ∷ 1 ∷ 9 ∷ 0 ∷ []
 
 abbrev pub answerOf : Question → Answer
 answerOf (checkOf s) = number (crc32 s)
@@ -33,6 +43,7 @@ answerOf (freshAfter last counter) =
     (fresh
     (record { held = true; sender = 0; counter = last })
     (record { «com_id» = 0; sender = 0; destination = 0; counter = counter; time = 0 }))
+answerOf (dataset1001 form s) = walks (wholeOf form run1001 1001 s)
 
 -- a question with the answer that document 01 gives
 pub record Example : Type 0 where
@@ -59,6 +70,15 @@ examples =
     ∷ record { question = topography 7 8 7 9; answer = holds false }
     ∷ record { question = topography 7 0 7 9; answer = holds true }
     ∷ record { question = topography 0 9 7 9; answer = holds false }
+    -- 1001: wire 0200010002 is host 0201000200; nothing is left over
+    ∷ record {
+      question = dataset1001 Wire (0x02 ∷ 0x00 ∷ 0x01 ∷ 0x00 ∷ 0x02 ∷ []);
+      answer = walks (walked [] (0x02 ∷ 0x01 ∷ 0x00 ∷ 0x02 ∷ 0x00 ∷ []));
+    }
+    ∷ record {
+      question = dataset1001 Host (0x02 ∷ 0x01 ∷ 0x00 ∷ 0x02 ∷ 0x00 ∷ []);
+      answer = walks (walked [] (0x02 ∷ 0x00 ∷ 0x01 ∷ 0x00 ∷ 0x02 ∷ []));
+    }
     ∷ []
 
 -- each example's answer is the one that the definitions give

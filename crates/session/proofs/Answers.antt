@@ -2,11 +2,11 @@
 -- Assumes nothing.
 use mathlib.Core.Path.{_≡_, refl, sym, ap, subst, _∙_}
 use mathlib.Core.Bool.{Bool, true, false, cond}
-use mathlib.Core.List.{List, [], _∷_}
+use mathlib.Core.List.{List, map}
 use mathlib.Core.Option.{Option, none, some}
-use Prim.Native.Nat.{ℕ, zero, suc, _<_, _≤_}
-use native.Mathlib.Omega.{arith}
-use lib.ListN.{length, getD, set}
+use Prim.Native.Nat.{ℕ}
+use lib.IntN.{ℤ}
+use lib.ListN.{getD, set}
 use lib.Seq.{set-getD}
 use Rattle.refusal.specs.Refusal.{msgType, noSlot, sessionInUse, noSession}
 use Rattle.tables.specs.Trace.{Outcome}
@@ -21,20 +21,10 @@ use Rattle.session.specs.declared.SessionState.the-variants.{WaitingForR
 use Rattle.session.specs.declared.Tables.{Tables}
 use Rattle.session.specs.declared.Told.{Told}
 use Rattle.session.specs.Listener.{freeListener}
-use Rattle.session.specs.Session.{freeSession, isFree, has, isWithUser, owesConfirm}
+use Rattle.session.specs.Session.{freeSession, isFree, has, isWithUser, owesConfirm, codeOf, expired}
 use Rattle.session.specs.Table as table
 use Rattle.session.specs.Table.{refusedPlain, atSession, answered, ended, isReply, withSessions}
-use Rattle.session.specs.Calls.{meaning, placeOf, placed, placeAnswer, Opens, Follows, refusing, keeping, keepingListener}
-
-pub getD-outside : {X : Type 0} (xs : List X) (k : ℕ) (d : X) → length xs ≤ k → getD xs k d ≡ d
-getD-outside [] k d e = refl
-getD-outside (y ∷ ys) zero d e = absurd (omega arith)
-getD-outside (y ∷ ys) (suc k) d e = getD-outside ys k d (omega arith)
-
-pub getD-any : {X : Type 0} (xs : List X) (k : ℕ) (d e : X) → k < length xs → getD xs k d ≡ getD xs k e
-getD-any [] k d e l = absurd (omega arith)
-getD-any (y ∷ ys) zero d e l = refl
-getD-any (y ∷ ys) (suc k) d e l = getD-any ys k d e (omega arith)
+use Rattle.session.specs.Calls.{meaning, placeOf, placed, placeAnswer, Opens, Follows, Checks, refusing, keeping, keepingListener}
 
 -- ---- opening a session
 
@@ -132,3 +122,10 @@ module _ (k : ℕ) (t : Tables) (r : Told) (l : Listener) (at : l ≡ getD (t .l
       follows (table.unlisten k) t r (record { answer = refusedPlain noSlot; after = t })
       (let z : getD (t .listeners) k freeListener .used ≡ false = subst (λ z. z .used ≡ false) at e in rw (z, set-getD (t .listeners) k freeListener) refl)
       (ap (λ z. meaning (z .answer)) q) (ap (λ z. z .tables) q)
+
+-- ---- the time check
+
+pub checked : (time : ℕ) (t : Tables) (xs : List Session) (codes : List ℤ) → xs ≡ map (expired time) (t .sessions) → codes ≡ map (λ x. codeOf time (x .state)) (t .sessions)
+    → Checks time t (record { tables = record { listeners = t .listeners; sessions = xs }; codes = codes })
+unfolding table.step
+checked time t xs codes e d = record { answers = ap table.codes d; leaves = ap (λ z. record { listeners = t .listeners; sessions = z }) e }

@@ -5,3 +5,12 @@ pub mod Compared
 pub mod Answers
 mod Arrays
 pub mod Places
+mod Listening
+mod Filled
+mod Searches
+pub mod Arrived
+pub mod Values
+pub mod Received
+pub mod AsArrive
+pub mod AsOutcomeOf
+pub mod History

@@ -29,11 +29,11 @@ use Rattle.session.specs.declared.Tables.{Tables}
 use Rattle.session.specs.Listener as Listeners
 use Rattle.session.specs.Session.{freeSession, isFree, waitsForReply, owesConfirm, isWithUser, waitsForConfirm, has, codeOf, expired}
 use Rattle.session.specs.Table.{Call, listen, unlisten, calling, telegram, reply, confirm, timeCheck, Answer, listening, freed, opened, requested, taken, replied, confirmed, refused, refusedPlain, listenChecks, earlier, unlistened, Heard, Judged, refusal, passed, judged, judgedBy, heardOf, mdChecks, Kind, mn, mr, mp, mq, mc, me, kindOf, opening, takenAt, canTake, taking, ended, owing, atSession, answered, withSessions, notifying, requesting, arriving, isReply, step, emptyTables}
-use Rattle.session.specs.Alone.{fed, heard, heardAlone, numbered, sessionWatch, openedAt, identifier, concerns, ownTelegram, OneSession}
+use Rattle.session.specs.Alone.{slotAt, fed, heard, heardAlone, numbered, sessionWatch, openedAt, identifier, concerns, ownTelegram, OneSession}
 use Rattle.session.proofs.Identifiers.{and-left, equal-same, equal-refl}
 use Rattle.session.proofs.Kept.{Kept, kept-own, kept-other, has-busy, same-id, kept-ended, kept-owing, kept-answered, kept-at, kept-expired}
 
-record Has (k : ℕ) (id : List ℕ) (xs : List Session) : Type 0 where
+pub record Has (k : ℕ) (id : List ℕ) (xs : List Session) : Type 0 where
   lt : k < length xs
   own : has id (getD xs k freeSession) ≡ true
   unique : (j : ℕ) → j ≢ k → has id (getD xs j freeSession) ≡ false
@@ -137,7 +137,7 @@ module _ (k : ℕ) (id : List ℕ) where
 
   -- ---- call by call
 
-  abbrev Held : Tables → Type 0
+  abbrev pub Held : Tables → Type 0
   Held t = Has k id (t .sessions)
 
   abbrev only : Session → Tables
@@ -278,7 +278,7 @@ module _ (k : ℕ) (id : List ℕ) where
           }
       go false b = passes c t (rw (fd, b) refl) (λ z. rw (hr z, b) refl) (rw (s t) (at-other f kept (t .sessions) h j b))
 
-  follows : (c : Call) (t : Tables) → Held t → Follows (sessionWatch k id) Held c t
+  pub follows : (c : Call) (t : Tables) → Held t → Follows (sessionWatch k id) Held c t
   unfolding step
   follows (listen comId senders u) t h = passes (listen comId senders u) t refl (λ a. refl) (same-leaves (t .sessions) h)
   follows (unlisten j) t h = passes (unlisten j) t refl (λ a. refl) (same-leaves (t .sessions) h)
@@ -486,8 +486,14 @@ alone-opens : (given : ℕ → Answer) (full : Answer) (i : List ℕ) (state : S
 unfolding grant has
 alone-opens given full i state = refl
 
-pub one-session : OneSession
-one-session m n before after c k o =
+-- an opening after any list of calls: its answer and the session are those of the session alone, and the session is held
+pub opened-held : (m n : ℕ) (before : List Call) (c : Call) (k : ℕ)
+    → let t = run step before (emptyTables m n) in
+    let o = step c t in
+    let alone = step c (record { listeners = t .listeners; sessions = freeSession ∷ [] }) in
+    openedAt (o .answer) ≡ some k
+    → (o .answer ≡ numbered k (alone .answer)) × (slotAt k (o .after) ≡ slotAt 0 (alone .after)) × Held k (identifier c) (o .after)
+opened-held m n before c k o =
     let t : Tables = run step before (emptyTables m n) in
     let p : Opens c t k = opens c t k o in
     let y : Session = record { id = p .id; state = p .state } in
@@ -496,9 +502,12 @@ one-session m n before after c k o =
     let lt : k < length (t .sessions) = (lowest-is isFreeSession freeSession (t .sessions) k (g .at)) .0 in
     let h : Has k (p .id) (set (t .sessions) k y) = has-new (p .id) (p .state) (t .sessions) k (p .busy) lt (g .new) in
     let at : getD (set (t .sessions) k y) k freeSession ≡ y = getD-set-same (t .sessions) k y freeSession lt in
-    let u : Tables = record { listeners = t .listeners; sessions = set (t .sessions) k y } in
-    rw (s, p .step-is (freeSession ∷ []), g .answers, g .leaves, alone-opens (p .given) (p .full) (p .id) (p .state), ← p .id-is) (
-      sym (p .kept-number),
-      ap (λ x. record { listeners = []; sessions = x ∷ [] }) at,
-      rw at at (same-watch (sessionWatch k (p .id)) (Held k (p .id)) (follows k (p .id)) after u h),
-    )
+    rw (s, p .step-is (freeSession ∷ []), g .answers, g .leaves, alone-opens (p .given) (p .full) (p .id) (p .state), ← p .id-is)
+    (sym (p .kept-number), ap (λ x. record { listeners = []; sessions = x ∷ [] }) at, h)
+
+pub one-session : OneSession
+one-session m n before after c k o =
+    let g = opened-held m n before c k o in
+    let u : Tables = (step c (run step before (emptyTables m n))) .after in
+    let id = identifier c in
+    (g .0, g .1, rw (g .1) at (same-watch (sessionWatch k id) (Held k id) (follows k id) after u (g .2)))

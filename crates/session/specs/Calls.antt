@@ -9,6 +9,7 @@ use mathlib.Core.Option.{Option, none, some}
 use Rattle.refusal.specs.Refusal.{sessionInUse}
 use Rattle.session.specs.declared.Answer.{Answer}
 use Rattle.session.specs.declared.Answer.the-variants.{Listening, Freed, Opened, Notified, Requested, Taken, Replied, Confirmed, Refused}
+use Rattle.session.specs.declared.Checked.{Checked}
 use Rattle.session.specs.declared.Found.{Found}
 use Rattle.session.specs.declared.Found.the-variants.{At, Nothing}
 use Rattle.session.specs.declared.Listener.{Listener}
@@ -24,7 +25,7 @@ use Rattle.tables.specs.Lists.{any, lowest}
 use Rattle.session.specs.Session.{isFree, waitsForReply, waitsForConfirm, has, codeOf, expired}
 use Rattle.session.specs.declared.Told.{Told}
 use Rattle.session.specs.Table as table
-use Rattle.session.specs.Table.{Call, step}
+use Rattle.session.specs.Table.{Call, timeCheck, step}
 
 -- a place that was found, or none
 abbrev pub foundOf : Option ℕ → Found
@@ -47,6 +48,11 @@ meaning (Refused r status) = table.refused r status
 pub record Follows (c : Call) (t : Tables) (r : Told) : Type 0 where
   pub answers : meaning (r .answer) ≡ step c t .answer
   pub leaves : r .tables ≡ step c t .after
+
+-- a time check: the codes are its answer
+pub record Checks (time : ℕ) (t : Tables) (r : Checked) : Type 0 where
+  pub answers : table.codes (r .codes) ≡ step (timeCheck time) t .answer
+  pub leaves : r .tables ≡ step (timeCheck time) t .after
 
 -- what an incoming reply or confirm asks of a session
 abbrev pub waitsOf : Waits → SessionState → Bool

@@ -3,3 +3,5 @@ pub mod Session
 pub mod Table
 pub mod Alone
 pub mod Calls
+pub mod Arriving
+pub mod History

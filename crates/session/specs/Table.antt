@@ -1,6 +1,6 @@
 -- The listeners and sessions, and what each call answers and leaves. Document 01, Message sessions.
 use Prim.Native.Nat.{ℕ, zero, suc}
-use mathlib.Core.Bool.{Bool, true, false, cond, not, _&&_, _||_}
+use mathlib.Core.Bool.{Bool, cond, not, _&&_, _||_}
 use mathlib.Core.List.{List, [], _∷_, _++_, map}
 use mathlib.Core.Option.{Option, none, some}
 use lib.Dec.{eqb}
@@ -168,11 +168,18 @@ abbrev pub notifying : Option ℕ → List Session → Outcome Answer (List Sess
 notifying none xs = record { answer = refusedPlain noMatch; after = xs }
 notifying (some l) xs = record { answer = notified l; after = xs }
 
--- Mr: 8 with status -3, 17, 18 with status -4; else the lowest free session, with the user
+-- Mr's 8 carries status -3, its 18 carries -4, for the Me to be sent
+abbrev pub noListener : Answer
+noListener = refused noMatch (negsuc 2)
+
+abbrev pub allInUse : Answer
+allInUse = refused noFreeSession (negsuc 3)
+
+-- Mr: 8, 17, 18; else the lowest free session, with the user
 abbrev pub requesting : Option ℕ → Heard → List Session → Outcome Answer (List Session)
-requesting none h xs = record { answer = refused noMatch (negsuc 2); after = xs }
+requesting none h xs = record { answer = noListener; after = xs }
 requesting (some l) h xs =
-    opening (requested l) (refused noFreeSession (negsuc 3)) (h .id) (WithUser (record { start = h .time; timeout = h .timeout })) xs
+    opening (requested l) allInUse (h .id) (WithUser (record { start = h .time; timeout = h .timeout })) xs
 
 abbrev pub arriving : Kind → Option ℕ → Heard → List Session → Outcome Answer (List Session)
 arriving mn l h xs = notifying l xs
@@ -182,11 +189,14 @@ arriving mq l h xs = taking waitsForReply (owing h) h xs
 arriving mc l h xs = taking waitsForConfirm ended h xs
 arriving me l h xs = taking waitsForReply ended h xs
 
+-- the lowest matching listener
+abbrev pub hearing : Heard → List Listener → Option ℕ
+hearing h ls = lowest (hears (h .comId) (h .sender) (h .destination)) ls
+
 abbrev pub arrivingAt : Judged → Tables → Outcome Answer Tables
 arrivingAt (refusal r) t = record { answer = refusedPlain r; after = t }
 arrivingAt (passed h) t =
-    withSessions (t .listeners)
-    (arriving (kindOf (h .type)) (lowest (hears (h .comId) (h .sender) (h .destination)) (t .listeners)) h (t .sessions))
+    withSessions (t .listeners) (arriving (kindOf (h .type)) (hearing h (t .listeners)) h (t .sessions))
 
 -- 5 if neither Mp nor Mq
 abbrev pub isReply : ℕ → Bool

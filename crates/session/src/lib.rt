@@ -1,17 +1,34 @@
 // Message sessions: one listener, one session, and sixteen of each, by value.
 use address::SenderRange;
+use arrival::Arrival;
+use md::MdTaken;
+use statistics::Statistics;
+use telegram::Family;
 use timing::Timing;
 ghost use lib.ListN.{getD};
 ghost use mathlib.Core.Path.{_≡_};
-ghost use mathlib.Core.Bool.{not};
+ghost use mathlib.Core.Bool.{cond, not, _&&_};
+ghost use lib.IntN.{pos};
 ghost use Rattle.tables.specs.Lists.{any, lowest};
-ghost use Rattle.md.specs.Uri.{equal};
+ghost use Rattle.md.specs.Uri.{equal, sound};
+ghost use Rattle.md.specs.Md.{sourceUriOf, destinationUriOf};
+ghost use Rattle.timing.specs.Timing.{timeUp};
 ghost use Rattle.session.specs.Listener.{freeListener, newListener, hears, holds};
 ghost use Rattle.session.specs.Session.{freeSession, isFree, waitsForReply, owesConfirm, isWithUser, waitsForConfirm, has, codeOf, isUp, expired};
-ghost use Rattle.session.specs.Table.{canTake, answered, calling, reply, confirm, unlisten, opened, refusedPlain, isReply};
-ghost use Rattle.session.specs.Calls.{foundOf, meaning, waitsOf, placeAnswer, Opens, Follows, refusing, keeping, keepingListener};
-ghost use Rattle.refusal.specs.Refusal.{noFreeSession};
+ghost use Rattle.session.specs.Table.{canTake, answered, calling, reply, confirm, listen, unlisten, listenChecks, opened, requested, refusedPlain, isReply};
+ghost use Rattle.session.specs.Table.{telegram, kindOf, hearing, allInUse, notifying, requesting, taking, ended, owing, arriving};
+ghost use Rattle.session.specs.Calls.{foundOf, meaning, waitsOf, placeAnswer, Opens, Follows, Checks, refusing, keeping, keepingListener};
+ghost use Rattle.session.specs.Arriving.{heardBy, byIdentifier, outcomeOf, Gives, Receives};
+ghost use Rattle.refusal.specs.Refusal.{firstOf, noFreeSession};
 
+// How many octets an identifier has.
+const IDENTIFIER_OCTETS: usize = 16;
+// A notification.
+pub const MN: u16 = 0x4D6E;
+// A request.
+pub const MR: u16 = 0x4D72;
+// A confirm.
+pub const MC: u16 = 0x4D63;
 // A reply that asks for no confirm.
 pub const MP: u16 = 0x4D70;
 // A reply that asks for a confirm.
@@ -77,6 +94,12 @@ pub struct Told {
     pub answer: Answer,
 }
 
+// The tables after a time check, and its code for each session slot.
+pub struct Checked {
+    pub tables: Tables,
+    pub codes: [i32; 16],
+}
+
 // A listener that is free.
 pub fn no_listener() -> Listener
     ensures { λ r. ⌜ r ≡ freeListener ⌝ }
@@ -137,7 +160,7 @@ pub fn are_equal(a: [u8; 16], b: [u8; 16]) -> bool
     ensures { λ r. ⌜ r ≡ equal a b ⌝ }
 {
     let mut i: usize = 0;
-    while i < 16 {
+    while i < IDENTIFIER_OCTETS {
         if a[i] != b[i] {
             return false;
         }
@@ -192,6 +215,53 @@ pub fn expire(x: Session, time: u64) -> Session
         return no_session();
     }
     x
+}
+
+// A code where the time is up; else 0.
+fn code_if_up(t: Timing, time: u64, code: i32) -> i32
+    ensures { λ r. ⌜ r ≡ cond (timeUp t time) code (pos 0) ⌝ }
+{
+    if timing::is_up(t, time) {
+        return code;
+    }
+    0
+}
+
+// What a time check answers for a session.
+pub fn code_of(s: SessionState, time: u64) -> i32
+    ensures { λ r. ⌜ r ≡ codeOf time s ⌝ }
+{
+    match s {
+        SessionState::Free => 0,
+        SessionState::WaitingForReply(t) => code_if_up(t, time, -6),
+        SessionState::OwingConfirm(t) => code_if_up(t, time, -2),
+        SessionState::WithUser(t) => code_if_up(t, time, -2),
+        SessionState::WaitingForConfirm(t) => code_if_up(t, time, -8),
+    }
+}
+
+// Frees every session whose time is up, and answers a code for each slot.
+pub fn time_check(t: Tables, time: u64) -> Checked
+    ensures { λ r. ⌜ Checks time t r ⌝ }
+{
+    let ls = t.listeners;
+    let mut xs = t.sessions;
+    let mut codes = [0i32; 16];
+    let mut i: usize = 0;
+    while i < 16 {
+        let x = xs[i];
+        let s = x.state;
+        codes[i] = code_of(s, time);
+        xs[i] = expire(x, time);
+        i += 1;
+    }
+    Checked {
+        tables: Tables {
+            listeners: ls,
+            sessions: xs,
+        },
+        codes: codes,
+    }
 }
 
 // The lowest listener that hears a telegram.
@@ -571,6 +641,44 @@ fn keep_listener(t: Tables, k: usize, l: Listener, answer: Answer) -> Told
     }
 }
 
+// Whether a listener may be added: 11, 20, 12; 0 where it may.
+fn judge_listener(ls: [Listener; 16], com_id: u32, senders: SenderRange, uri: [u8; 32]) -> u8
+    ensures { λ r. ⌜ r ≡ firstOf (listenChecks «com_id» senders uri ls) ⌝ }
+{
+    if address::is_reversed(senders) {
+        return refusal::RANGE;
+    }
+    if md::uri::is_sound(&uri) {
+        if has_listener(ls, com_id, senders, &uri) {
+            return refusal::FILTER_IN_USE;
+        }
+        return 0;
+    }
+    refusal::URI
+}
+
+// Adds a listener: 11, 20, 12, 13; else the lowest free slot.
+pub fn listen(t: Tables, com_id: u32, senders: SenderRange, uri: [u8; 32]) -> Told
+    ensures { λ r. ⌜ Follows (listen «com_id» senders uri) t r ⌝ }
+{
+    let ls = t.listeners;
+    let n = judge_listener(ls, com_id, senders, uri);
+    if n != 0 {
+        return refuse(t, n);
+    }
+    let f = free_listener(ls);
+    let Found::At(k) = f else {
+        return refuse(t, refusal::NO_FREE_SLOT);
+    };
+    let l = Listener {
+        used: true,
+        com_id: com_id,
+        senders: senders,
+        uri: uri,
+    };
+    keep_listener(t, k, l, Answer::Listening(k))
+}
+
 // Frees the listener of a slot: 10.
 pub fn unlisten(t: Tables, k: usize) -> Told
     ensures { λ r. ⌜ Follows (unlisten k) t r ⌝ }
@@ -582,4 +690,196 @@ pub fn unlisten(t: Tables, k: usize) -> Told
         return keep_listener(t, k, none, Answer::Freed);
     }
     refuse(t, refusal::NO_SLOT)
+}
+
+// What a telegram says that passed its checks; its destination URI stands beside it.
+pub struct Message {
+    pub msg_type: u16,
+    pub com_id: u32,
+    pub sender: u32,
+    pub time: u64,
+    pub id: [u8; 16],
+    pub status: i32,
+    pub timeout: u32,
+}
+
+// Mn: 8, else the lowest listener that hears it; no session.
+fn notify(t: Tables, m: Message, destination: &[u8]) -> Told
+    ensures { λ r. ⌜ Gives t (notifying (hearing (heardBy m (now (destination .entry))) (t .listeners)) (t .sessions)) r ⌝ }
+{
+    let ls = t.listeners;
+    let f = find_listener(ls, m.com_id, m.sender, destination);
+    let Found::At(l) = f else {
+        return refuse(t, refusal::NO_MATCH);
+    };
+    Told {
+        tables: t,
+        answer: Answer::Notified(l),
+    }
+}
+
+// What an opening answers to an Mr that listener l hears: 17, 18 with status -4.
+fn requested_as(place: Place, l: usize) -> Answer
+    ensures { λ r. ⌜ meaning r ≡ placeAnswer (requested l) allInUse place ⌝ }
+{
+    match place {
+        Place::Slot(k) => Answer::Requested(l, k),
+        Place::InUse => Answer::Refused(refusal::SESSION_IN_USE, 0),
+        Place::Full => Answer::Refused(refusal::NO_FREE_SESSION, -4),
+    }
+}
+
+// Mr: 8 with status -3, 17, 18 with status -4; else the lowest free session, with the user.
+fn request(t: Tables, m: Message, destination: &[u8]) -> Told
+    ensures { λ r. ⌜ Gives t (requesting (hearing (heardBy m (now (destination .entry))) (t .listeners)) (heardBy m (now (destination .entry))) (t .sessions)) r ⌝ }
+{
+    let ls = t.listeners;
+    let f = find_listener(ls, m.com_id, m.sender, destination);
+    let Found::At(l) = f else {
+        return Told {
+            tables: t,
+            answer: Answer::Refused(refusal::NO_MATCH, -3),
+        };
+    };
+    let waits = Timing {
+        start: m.time,
+        timeout: m.timeout,
+    };
+    let xs = t.sessions;
+    let id = m.id;
+    let o = open(xs, id, SessionState::WithUser(waits));
+    let ys = o.sessions;
+    let place = o.place;
+    Told {
+        tables: Tables {
+            listeners: ls,
+            sessions: ys,
+        },
+        answer: requested_as(place, l),
+    }
+}
+
+// Mp, Me and Mc: 19, else the session is freed.
+fn end_session(t: Tables, m: Message, w: Waits) -> Told
+    ensures { λ r. ⌜ Gives t (taking (waitsOf w) ended (byIdentifier m) (t .sessions)) r ⌝ }
+{
+    let xs = t.sessions;
+    let id = m.id;
+    let f = find_taker(xs, id, w);
+    let Found::At(k) = f else {
+        return refuse(t, refusal::NO_SESSION);
+    };
+    let none = no_session();
+    keep(t, k, none, Answer::Taken(m.status, k))
+}
+
+// Mq: 19, else the session owes a confirm, with Mq's timeout.
+fn owe_confirm(t: Tables, m: Message) -> Told
+    ensures { λ r. ⌜ Gives t (taking waitsForReply (owing (byIdentifier m)) (byIdentifier m) (t .sessions)) r ⌝ }
+{
+    let xs = t.sessions;
+    let id = m.id;
+    let f = find_taker(xs, id, Waits::Reply);
+    let Found::At(k) = f else {
+        return refuse(t, refusal::NO_SESSION);
+    };
+    let waits = Timing {
+        start: m.time,
+        timeout: m.timeout,
+    };
+    let x = session_at(xs, k);
+    let own = x.id;
+    let owes = Session {
+        id: own,
+        state: SessionState::OwingConfirm(waits),
+    };
+    keep(t, k, owes, Answer::Taken(m.status, k))
+}
+
+// The rule of the telegram's type; checks 2 to 6 let only the six in, and Me is the last.
+fn follow(t: Tables, m: Message, destination: &[u8]) -> Told
+    ensures { λ r. ⌜ Gives t (arriving (kindOf (m .«msg_type»)) (hearing (heardBy m (now (destination .entry))) (t .listeners)) (heardBy m (now (destination .entry))) (t .sessions)) r ⌝ }
+{
+    if m.msg_type == MN {
+        return notify(t, m, destination);
+    }
+    if m.msg_type == MR {
+        return request(t, m, destination);
+    }
+    if m.msg_type == MP {
+        return end_session(t, m, Waits::Reply);
+    }
+    if m.msg_type == MQ {
+        return owe_confirm(t, m);
+    }
+    if m.msg_type == MC {
+        return end_session(t, m, Waits::Confirm);
+    }
+    end_session(t, m, Waits::Reply)
+}
+
+// Both URI fields of a datagram are sound; else refusal 20.
+fn has_sound_uris(datagram: &[u8]) -> bool
+    ensures { λ r. ⌜ r ≡ (sound (sourceUriOf (now (datagram .entry))) && sound (destinationUriOf (now (datagram .entry)))) ⌝ }
+{
+    if md::uri::is_sound(md::source_uri(datagram)) {
+        return md::uri::is_sound(md::destination_uri(datagram));
+    }
+    false
+}
+
+// An MD datagram arrives: 2 to 7, 20, then the rule of its type.
+pub fn arrive(t: Tables, a: Arrival, datagram: &[u8]) -> Told
+    ensures { λ r. ⌜ Follows (telegram a (now (datagram .entry))) t r ⌝ }
+{
+    let taken = md::take_md(datagram);
+    let MdTaken::Header(h) = taken else {
+        return refuse(t, md::refusal(taken));
+    };
+    let c = h.common;
+    if arrival::is_local(c, a) {
+        if has_sound_uris(datagram) {
+            let id = md::session_id(datagram);
+            let m = Message {
+                msg_type: c.msg_type,
+                com_id: c.com_id,
+                sender: a.sender,
+                time: a.time,
+                id: id,
+                status: h.reply_status,
+                timeout: h.reply_timeout,
+            };
+            return follow(t, m, md::destination_uri(datagram));
+        }
+        return refuse(t, refusal::URI);
+    }
+    refuse(t, refusal::TOPOGRAPHY)
+}
+
+// The outcome that an answer counts as: the refusal's number, 0 for whatever was granted.
+pub fn outcome_of(answer: Answer) -> u8
+    ensures { λ r. ⌜ r ≡ outcomeOf (meaning answer) ⌝ }
+{
+    match answer {
+        Answer::Refused(number, _) => number,
+        Answer::Listening(_) => 0,
+        Answer::Freed => 0,
+        Answer::Opened(_) => 0,
+        Answer::Notified(_) => 0,
+        Answer::Requested(_, _) => 0,
+        Answer::Taken(_, _) => 0,
+        Answer::Replied => 0,
+        Answer::Confirmed => 0,
+    }
+}
+
+// An MD datagram arrives, and the caller's statistics are added to.
+pub fn receive(t: Tables, s: &mut Statistics, a: Arrival, datagram: &[u8]) -> Told
+    ensures { λ r. ⌜ Receives a (now (datagram .entry)) t (now (s .entry)) r (now (s .exit)) ⌝ }
+{
+    let r = arrive(t, a, datagram);
+    let answer = r.answer;
+    let outcome = outcome_of(answer);
+    statistics::record(s, Family::Md, outcome);
+    r
 }

@@ -58,6 +58,15 @@ pub fn add(s: Statistics, f: Family, outcome: u8) -> Statistics
     }
 }
 
+// An arriving telegram, with its outcome, is added to the caller's statistics.
+pub fn record(s: &mut Statistics, f: Family, outcome: u8)
+    ensures { λ _. ⌜ now (s .exit) ≡ added f outcome (now (s .entry)) ⌝ }
+{
+    let old = *s;
+    let new = add(old, f, outcome);
+    *s = new;
+}
+
 // Statistics that have counted nothing.
 pub fn none() -> Statistics
     ensures { λ r. ⌜ r ≡ noStatistics ⌝ }

@@ -132,7 +132,7 @@ module _ (k : ℕ) (q : Request) (time : ℕ) (ss : List Slot) (fs : List Fed) (
 -- ---- the whole list
 
 -- slot k is held: the table is slots alone side by side, of which slot k is one that was granted
-record Held (k : ℕ) (q : Request) (time : ℕ) (t : Table) : Type 0 where
+pub record Held (k : ℕ) (q : Request) (time : ℕ) (t : Table) : Type 0 where
   ss : List Slot
   fs : List Fed
   fits : length ss ≤ 32
@@ -140,7 +140,7 @@ record Held (k : ℕ) (q : Request) (time : ℕ) (t : Table) : Type 0 where
   is : getD ss k free ≡ held q time fs
   table : t ≡ joined ss
 
-follows : (k : ℕ) (q : Request) (time : ℕ) (c : Call) (t : Table) → Held k q time t → Follows (slotWatch k (q .filter)) (Held k q time) c t
+pub follows : (k : ℕ) (q : Request) (time : ℕ) (c : Call) (t : Table) → Held k q time t → Follows (slotWatch k (q .filter)) (Held k q time) c t
 follows k q time c t h = rw (h .table)
     (record {
       slot = rw (agrees c (h .ss) (h .fits), slot-joined ((beside c (h .ss)) .after) k lt′, slot-joined (h .ss) k (h .lt), h .is) (then .slot);
@@ -191,13 +191,11 @@ fits-if-granted n octets before q time k e = go (fits n octets) refl
         let e′ : granted k ≡ refused 1 = sym e ∙ ap (λ u. (step (subscribe q time) u) .answer) same ∙ ap (λ o. o .answer) (refuses (subscribe q time) (run refusing before t) r′) in
         let z : _≡_ {A = ℕ} 0 1 = cc in absurd (omega arith)
 
-from-grant : (ss : List Slot) → length ss ≤ 32 → (after : List Call) (q : Request) (time k : ℕ)
+from-grant : (ss : List Slot) → length ss ≤ 32 → (q : Request) (time k : ℕ)
     → let t = step (subscribe q time) (joined ss) in
-    let a = (step (subscribe q time) (emptyTable 1 slotOctets)) .after in
-    t .answer ≡ granted k
-    → (slotAt k (t .after) ≡ a) × (watched (slotWatch k (q .filter)) after (t .after) ≡ watchedAlone (slotWatch k (q .filter)) (told (slotWatch k (q .filter)) after (t .after)) a)
+    t .answer ≡ granted k → (slotAt k (t .after) ≡ (step (subscribe q time) (emptyTable 1 slotOctets)) .after) × Held k q time (t .after)
 unfolding beside alone
-from-grant ss le after q time k e =
+from-grant ss le q time k e =
     let c = subscribe q time in
     let ss′ : List Slot = (beside c ss) .after in
     let g = grant-means (unsound (q .filter)) (any (grantedSame q) ss) (lowest isFree ss) k (held q time []) ss (rw (agrees c ss le) at e) in
@@ -206,14 +204,22 @@ from-grant ss le after q time k e =
     let is : getD ss′ k free ≡ held q time [] = ap (λ l. getD l k free) (g .2) ∙ getD-set-same ss k (held q time []) free lt in
     let slot : slotAt k (joined ss′) ≡ alone q time [] = slot-joined ss′ k lt′ ∙ ap only is in
     let h : Held k q time (joined ss′) = record { ss = ss′; fs = []; fits = keeps c ss le; lt = lt′; is = is; table = refl } in
-    rw (agrees c ss le, alone-granted q time (g .0))
-    (slot, rw slot at (same-watch (slotWatch k (q .filter)) (Held k q time) (follows k q time) after (joined ss′) h))
+    rw (agrees c ss le, alone-granted q time (g .0)) (slot, h)
 
-pub demand-3 : OneSlot
-demand-3 n octets before after q time k e =
+-- a grant after any list of calls: the slot is the slot alone's, and is held
+pub granted-held : (n octets : ℕ) (before : List Call) (q : Request) (time k : ℕ)
+    → let grant = step (subscribe q time) (run step before (emptyTable n octets)) in
+    grant .answer ≡ granted k → (slotAt k (grant .after) ≡ (step (subscribe q time) (emptyTable 1 slotOctets)) .after) × Held k q time (grant .after)
+granted-held n octets before q time k e =
     let m = fits-means n octets (fits-if-granted n octets before q time k e) in
     let start : List Slot = replicate n free in
     let le : length start ≤ 32 = rw (length-replicate n free) (m .0) in
     let same : run step before (emptyTable n octets) ≡ joined (run beside before start) =
     rw (m .1, ← joined-empty n) (same-run step beside joined (λ ss. length ss ≤ 32) keeps agrees before start le) in
-    rw same (from-grant (run beside before start) (run-keeps step beside joined (λ ss. length ss ≤ 32) keeps agrees before start le) after q time k (rw same at e))
+    rw same (from-grant (run beside before start) (run-keeps step beside joined (λ ss. length ss ≤ 32) keeps agrees before start le) q time k (rw same at e))
+
+pub demand-3 : OneSlot
+demand-3 n octets before after q time k e =
+    let g = granted-held n octets before q time k e in
+    let t : Table = (step (subscribe q time) (run step before (emptyTable n octets))) .after in
+    (g .0, rw (g .0) at (same-watch (slotWatch k (q .filter)) (Held k q time) (follows k q time) after t (g .1)))

@@ -16,7 +16,12 @@ use Rattle.telegram.specs.Telegram.{commonOf, checks, datasetOf}
 use Rattle.telegram.specs.declared.Common.{Common}
 use Rattle.telegram.specs.declared.Family.the-variants as family
 use Rattle.telegram.proofs.Reading.{sound, whole}
-use Rattle.arrival.specs.Arrival.{topographyCheck}
+use Rattle.arrival.specs.Arrival.{topographyCheck, countsOf}
+use Rattle.pd.specs.Pd.{takePd, refusalOf}
+use Rattle.pd.specs.declared.PdHeader.{PdHeader}
+use Rattle.pd.specs.declared.PdTaken.{PdTaken}
+use Rattle.pd.specs.declared.PdTaken.the-variants as taken
+use Rattle.pd.specs.declared.PdTaken.the-variants.{Header}
 use Rattle.subscription.specs.Slot.{Judged, refusal, passed, judgedBy, judged, pdChecks, heardOf}
 use Rattle.subscription.specs.Table.{fits, telegram, deliveredTo, parts, records, store, slots, step}
 use Rattle.arrival.specs.declared.Arrival.{Arrival}
@@ -35,27 +40,45 @@ use Rattle.subscriptions.proofs.Follow.{arrived, ltb-one, sweptAnswer, 
 
 -- ---- checks 2 to 7
 
-pub arrival-first : (a : Arrival) (d : List ℕ) (r : ℕ) → r ≡ firstOf (checks family.Pd d) → (r ≡ 0 → ⊥) → r ≡ firstOf (pdChecks a d)
-arrival-first a d r e n = go r e n ∙ sym (firstOf-append (checks family.Pd d) (topographyCheck a d ∷ []) tt)
-  where
-    go : (v : ℕ) → v ≡ firstOf (checks family.Pd d) → (v ≡ 0 → ⊥) → v ≡ orElse (firstOf (checks family.Pd d)) (firstOf (topographyCheck a d ∷ []))
-    go zero e n = absurd (n refl)
-    go (suc v) e n = rw (← e) refl
-
 -- 0 where the counters pass, else 7
 abbrev pub weighed : Bool → ℕ
 weighed true = 0
 weighed false = 7
 
-pub then-topography : (a : Arrival) (d : List ℕ) (c : Common) (p : Bool) → c ≡ commonOf d
-    → p ≡ passes (record { «etb_topo_cnt» = c .«etb_topo_cnt»; «op_trn_topo_cnt» = c .«op_trn_topo_cnt» }) (a .local)
-    → firstOf (checks family.Pd d) ≡ 0 → weighed p ≡ firstOf (pdChecks a d)
-then-topography a d c p r e f =
-    go p ∙ rw (e, r) (sym (firstOf-append (checks family.Pd d) (topographyCheck a d ∷ []) tt ∙ rw f refl))
-  where
-    go : (b : Bool) → weighed b ≡ cond (not b) 7 0
-    go true = refl
-    go false = refl
+isHeader : PdTaken → Bool
+isHeader (Header h) = true
+isHeader (taken.Refused r) = false
+
+commonIn : Common → PdTaken → Common
+commonIn c (Header h) = h .common
+commonIn c (taken.Refused r) = c
+
+-- a datagram taken apart: checks 2 to 6 gave the refusal, or none of them and 7 is judged on the header
+module _ (a : Arrival) (d : List ℕ) (t : PdTaken) (e : t ≡ takePd d) where
+  first-of : firstOf (pdChecks a d) ≡ orElse (firstOf (checks family.Pd d)) (firstOf (topographyCheck a d ∷ []))
+  first-of = firstOf-append (checks family.Pd d) (topographyCheck a d ∷ []) tt
+
+  pub taken-refused : (n : ℕ) → t ≡ taken.Refused n → refusalOf t ≡ firstOf (pdChecks a d)
+  unfolding isHeader
+  taken-refused n g = go (firstOf (checks family.Pd d)) refl
+    where
+      go : (v : ℕ) → firstOf (checks family.Pd d) ≡ v → refusalOf t ≡ firstOf (pdChecks a d)
+      go zero f = absurd (false≢true (sym (ap isHeader (sym (rw f at e) ∙ g))))
+      go (suc v) f = ap refusalOf (rw f at e) ∙ sym (first-of ∙ rw f refl)
+
+  pub taken-judged : (h : PdHeader) (p : Bool) → t ≡ Header h → p ≡ passes (countsOf (h .common)) (a .local) → weighed p ≡ firstOf (pdChecks a d)
+  unfolding isHeader commonIn
+  taken-judged h p g s = go (firstOf (checks family.Pd d)) refl
+    where
+      counts : (b : Bool) → weighed b ≡ cond (not b) 7 0
+      counts true = refl
+      counts false = refl
+
+      go : (v : ℕ) → firstOf (checks family.Pd d) ≡ v → weighed p ≡ firstOf (pdChecks a d)
+      go zero f =
+          let c : h .common ≡ commonOf d = ap (commonIn (commonOf d)) (sym g ∙ (rw f at e)) in
+          counts p ∙ rw (s, c) (sym (first-of ∙ rw f refl))
+      go (suc v) f = absurd (false≢true (ap isHeader (sym (rw f at e) ∙ g)))
 
 pub dataset-ends : (d : List ℕ) → 40 ≤ endOf d
 dataset-ends d = omega arith

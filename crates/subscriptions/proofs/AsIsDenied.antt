@@ -26,8 +26,8 @@ use denote.Triple.Spec.{tripleOf}
 use denote.Triple.Statement.{Contract, Triple}
 use denote.Triple.Clauses.{ensured, lasts}
 use denote.Triple.Walked.{says}
-use Rattle.subscriptions.proofs.ByValue.{unsignedInt, boolean, unitBy}
-use Rattle.subscriptions.proofs.Steps.{Call, none-lent, both-lent, slice-lent, ref-lent, shr-lent, pair-is}
+use Rattle.walks.proofs.ByValue.{unsignedInt, boolean, unitBy}
+use Rattle.walks.proofs.Steps.{Call, none-lent, both-lent, slice-lent, ref-lent, shr-lent, pair-is}
 use Rattle.subscriptions.proofs.Values.{subscriptionBy, eventBy, filterBy, sweptBy, answerBy, releasedBy, foundBy, arrivalBy, readingBy}
 use Rattle.subscription.specs.Record.{freeRecord, unsound, grantedRecord}
 use mathlib.Core.Bool.{not}
@@ -41,6 +41,13 @@ use Rattle.subscription.specs.Slot.{pdChecks, heardOf}
 use Rattle.arrival.specs.declared.Arrival.{Arrival}
 use Rattle.subscriptions.specs.declared.Answer.the-variants.{Refused}
 use Rattle.subscriptions.proofs.Arriving.{payload, has-header, has-dataset, payload-length, dataset-ends, dataset-counts, refused-follows, received-follows}
+use Rattle.statistics.proofs.Values.{statisticsBy, familyBy}
+use Rattle.statistics.specs.Statistics.{added}
+use Rattle.statistics.specs.declared.Statistics.{Statistics}
+use Rattle.telegram.specs.declared.Family.{Family}
+use Rattle.telegram.specs.declared.Family.the-variants.{Pd}
+use Rattle.subscriptions.specs.Receive.{Receives, uncounted, outcomeOf}
+use Rattle.subscriptions.proofs.Recording.{deliveredAnswer, deliveredRecords, deliveredStore, answered, uncounted-receives, counted-receives}
 use Rattle.subscription.specs.declared.Filter.{Filter}
 use Rattle.subscriptions.specs.declared.Swept.{Swept}
 use Rattle.subscriptions.specs.declared.Answer.{Answer}
@@ -64,30 +71,30 @@ module _ {M : Type 1} (𝓤 : URA M) (H : Heap 𝓤) (A : Atoms 𝓤) (W : Given
   abbrev pub G : Contract 𝓤
   G = tripleOf 𝓤 H A callee.signature (callee.spec 𝓤 H A mem run)
 
-  module _ (C : Calls 𝓤 H) (known : Triple 𝓤 (C #g) G) (fl : Filter) (fl-is : Is (filterBy 𝓤 H A W .R) fl (filterBy 𝓤 H A W .val fl ∷ [])) (s : Found) (s-is : Is (foundBy 𝓤 H A W .R) s (foundBy 𝓤 H A W .val s ∷ [])) where
+  module _ (C : Calls 𝓤 H) (known : Triple 𝓤 (C #g) G) (x : Answer) (x-is : Is (answerBy 𝓤 H A W .R) x (answerBy 𝓤 H A W .val x ∷ [])) where
     module _ (n : (none-lent 𝓤 H A W) .N) where
       abbrev Arg : Type 0
-      Arg = (Filter × (Found × Unit {0}))
+      Arg = (Answer × Unit {0})
 
       abbrev args : Arg
-      args = (fl, (s, tt))
+      args = (x, tt)
 
       abbrev to : G .Ghost
-      to = ((tt, tt, tt, args, (filterBy 𝓤 H A W .val fl ∷ [], (foundBy 𝓤 H A W .val s ∷ [], tt))), tt)
+      to = ((tt, tt, tt, args, (answerBy 𝓤 H A W .val x ∷ [], tt)), tt)
 
       goes : ent 𝓤 ((none-lent 𝓤 H A W) .sent n (tt)) (G .pre to)
-      goes = qed W ([]) ∵ nothing ! $ owned ! (foundBy 𝓤 H A W .R) (Is (foundBy 𝓤 H A W .R)) (foundBy 𝓤 H A W .makes) s _ s-is $ fjoin ! $ owned ! (filterBy 𝓤 H A W .R) (Is (filterBy 𝓤 H A W .R)) (filterBy 𝓤 H A W .makes) fl _ fl-is $ fjoin ! $ nothing ! $ move ! (0 ∷ 1 ∷ []) $ join ! $ nothing ! $ move ! (1 ∷ 0 ∷ []) $ done !
+      goes = qed W ([]) ∵ nothing ! $ owned ! (answerBy 𝓤 H A W .R) (Is (answerBy 𝓤 H A W .R)) (answerBy 𝓤 H A W .makes) x _ x-is $ fjoin ! $ nothing ! $ move ! (0 ∷ 1 ∷ []) $ join ! $ nothing ! $ move ! (1 ∷ 0 ∷ []) $ done !
 
-      abbrev Said : Bool → (Unit {0} × (Unit {0} × Unit {0})) → Type 0
-      Said r zs = r ≡ denied (unsound fl) s
+      abbrev Said : Bool → (Unit {0} × Unit {0}) → Type 0
+      Said r zs = r ≡ denied x
 
-      gives : (u : Val) → ent 𝓤 (G .post to u) (H .⇛ (ex 𝓤 (λ (z : Bool × Unit {0}). sep 𝓤 (sem 𝓤 H A (boolean 𝓤 H A W .R .own (z .0) (u ∷ []))) (sep 𝓤 ((none-lent 𝓤 H A W) .back n (z .1)) (fact 𝓤 ((z .0 ≡ denied (unsound fl) s) × ((z .1 ≡ tt) × (none-lent 𝓤 H A W) .Fit (tt) (z .1))))))))
+      gives : (u : Val) → ent 𝓤 (G .post to u) (H .⇛ (ex 𝓤 (λ (z : Bool × Unit {0}). sep 𝓤 (sem 𝓤 H A (boolean 𝓤 H A W .R .own (z .0) (u ∷ []))) (sep 𝓤 ((none-lent 𝓤 H A W) .back n (z .1)) (fact 𝓤 ((z .0 ≡ denied x) × ((z .1 ≡ tt) × (none-lent 𝓤 H A W) .Fit (tt) (z .1))))))))
       gives u =
           qed W (raw (G .post to u) ∷ []) ∵ updating ! $
           use1 W (later (some (λ (r : Bool). (‵ ftrue ⊛ ‵ (boolean 𝓤 H A W .R .own r (u ∷ []))) ⊛ raw (ensured 𝓤 H A callee.ended (callee.clauses 𝓤 H A mem run) (tt) args tt r)))) (id⊢ 𝓤 _) $ await ! tt $ pick ! (λ r. split ! $ move ! (1 ∷ []) $
-          use1 W (some (λ (zs : (Unit {0} × (Unit {0} × Unit {0}))). ‵ (lasts callee.ended (tt) args zs) ⊛ raw (fact 𝓤 (Said r zs)))) (id⊢ 𝓤 _) $ pick ! (λ zs. split ! $ move ! (1 ∷ []) $
+          use1 W (some (λ (zs : (Unit {0} × Unit {0})). ‵ (lasts callee.ended (tt) args zs) ⊛ raw (fact 𝓤 (Said r zs)))) (id⊢ 𝓤 _) $ pick ! (λ zs. split ! $ move ! (1 ∷ []) $
           heard ! (Said r zs) (λ e.
-          move ! (0 ∷ []) $ fsplit ! $ move ! (0 ∷ []) $ drop ! $ move ! (0 ∷ []) $ fsplit ! $ move ! (0 ∷ []) $ drop ! $ move ! (1 ∷ []) $ split ! $ use0 W (raw (fact 𝓤 ((r ≡ denied (unsound fl) s) × ((tt ≡ tt) × (none-lent 𝓤 H A W) .Fit (tt) (tt))))) (factI 𝓤 ((r ≡ denied (unsound fl) s) × ((tt ≡ tt) × (none-lent 𝓤 H A W) .Fit (tt) (tt))) (emp 𝓤) (e, (refl, tt))) $ at-once ! $ show ! (λ (z : Bool × Unit {0}). sep 𝓤 (sem 𝓤 H A (boolean 𝓤 H A W .R .own (z .0) (u ∷ []))) (sep 𝓤 ((none-lent 𝓤 H A W) .back n (z .1)) (fact 𝓤 ((z .0 ≡ denied (unsound fl) s) × ((z .1 ≡ tt) × (none-lent 𝓤 H A W) .Fit (tt) (z .1)))))) (r, tt) $ nothing ! $ keep ! (3 ∷ 0 ∷ 1 ∷ []) $ done !)))
+          move ! (0 ∷ []) $ fsplit ! $ move ! (0 ∷ []) $ drop ! $ move ! (1 ∷ []) $ split ! $ use0 W (raw (fact 𝓤 ((r ≡ denied x) × ((tt ≡ tt) × (none-lent 𝓤 H A W) .Fit (tt) (tt))))) (factI 𝓤 ((r ≡ denied x) × ((tt ≡ tt) × (none-lent 𝓤 H A W) .Fit (tt) (tt))) (emp 𝓤) (e, (refl, tt))) $ at-once ! $ show ! (λ (z : Bool × Unit {0}). sep 𝓤 (sem 𝓤 H A (boolean 𝓤 H A W .R .own (z .0) (u ∷ []))) (sep 𝓤 ((none-lent 𝓤 H A W) .back n (z .1)) (fact 𝓤 ((z .0 ≡ denied x) × ((z .1 ≡ tt) × (none-lent 𝓤 H A W) .Fit (tt) (z .1)))))) (r, tt) $ nothing ! $ keep ! (3 ∷ 0 ∷ 1 ∷ []) $ done !)))
 
-    pub called : Call 𝓤 H A C #g (filterBy 𝓤 H A W .val fl ∷ foundBy 𝓤 H A W .val s ∷ []) (none-lent 𝓤 H A W) (boolean 𝓤 H A W) (tt) (tt) (denied (unsound fl) s)
+    pub called : Call 𝓤 H A C #g (answerBy 𝓤 H A W .val x ∷ []) (none-lent 𝓤 H A W) (boolean 𝓤 H A W) (tt) (tt) (denied x)
     called = record { Q = λ n. G .post (to n); goes = λ n. via 𝓤 (G .pre (to n)) (goes n) (known (to n)); gives = gives }

@@ -46,7 +46,7 @@ module _ (ev : Event) (d : List ℕ) (g : Cell → Cell)
       (ap (λ l. recordAfter ev (length d) r ∷ l) (records-swept rs (drop slotOctets st) (long st (length rs) e .1)))
 
   pub store-swept : (rs : List Subscription) (st : List ℕ) → length st ≡ length rs * slotOctets → storeAfter ev d rs st ≡ store (map g (parts rs st))
-  unfolding parts slotOctets
+  unfolding parts
   store-swept [] [] e = refl
   store-swept [] (o ∷ st) e = let z : suc (length st) ≡ 0 = e ∙ zero-mul slotOctets in absurd (omega arith)
   store-swept (r ∷ rs) st e =

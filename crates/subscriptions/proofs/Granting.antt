@@ -69,7 +69,7 @@ module _ (q : Request) (time : ℕ) (rs : List Subscription) (st : List ℕ) (e 
   steps = rw (fitting, any-parts q rs st, lowest-parts rs st) refl
 
   -- 11, 12, 13: all stays
-  stays : (b a : Bool) (o : Option ℕ) → denied b (foundOf a o) ≡ true
+  stays : (b a : Bool) (o : Option ℕ) → denied (decided b (foundOf a o)) ≡ true
       → let z = lentAfter (grant (early b a) o (refused 13) granted (grantedCell q time) (parts rs st)) in
       (meaning (decided b (foundOf a o)) ≡ z .answer) × (rs ≡ z .after .records) × (st ≡ z .after .store)
   unfolding grant
@@ -79,20 +79,20 @@ module _ (q : Request) (time : ℕ) (rs : List Subscription) (st : List ℕ) (e 
   stays false false none h = (refl, sym (records-parts rs st), sym (store-parts rs st long))
   stays false false (some k) h = absurd (false≢true h)
 
-  pub denied-follows : denied bad found ≡ true → Follows (subscribe q time) rs st (meaning (decided bad found)) rs st
+  pub denied-follows : denied (decided bad found) ≡ true → Follows (subscribe q time) rs st (meaning (decided bad found)) rs st
   denied-follows d =
       let z = stays bad (any (holding (q .filter)) rs) (lowest isFree rs) d in
       record { answers = rw steps (z .0); records-after = rw steps (z .1); store-after = rw steps (z .2) }
 
   -- the lowest free slot is there
-  free-there : (b a : Bool) (o : Option ℕ) → lowest isFree rs ≡ o → denied b (foundOf a o) ≡ false → foundOf a o .slot < length rs
+  free-there : (b a : Bool) (o : Option ℕ) → lowest isFree rs ≡ o → denied (decided b (foundOf a o)) ≡ false → foundOf a o .slot < length rs
   free-there true a o l h = absurd (true≢false h)
   free-there false true none l h = absurd (true≢false h)
   free-there false true (some k) l h = absurd (true≢false h)
   free-there false false none l h = absurd (true≢false h)
   free-there false false (some k) l h = lowest-is isFree freeRecord rs k l .0
 
-  pub slot-there : denied bad found ≡ false → (found .slot < length rs) × (found .slot * 1432 + 1432 ≤ length st)
+  pub slot-there : denied (decided bad found) ≡ false → (found .slot < length rs) × (found .slot * 1432 + 1432 ≤ length st)
   unfolding slotOctets
   slot-there d =
       let n : found .slot < length rs = free-there bad (any (holding (q .filter)) rs) (lowest isFree rs) refl d in
@@ -100,7 +100,7 @@ module _ (q : Request) (time : ℕ) (rs : List Subscription) (st : List ℕ) (e 
       (n, omega (arith, long, l, suc-mul (found .slot) 1432))
 
   -- it is granted, and its part zeroed
-  grants : (b a : Bool) (o : Option ℕ) → denied b (foundOf a o) ≡ false → foundOf a o .slot < length rs
+  grants : (b a : Bool) (o : Option ℕ) → denied (decided b (foundOf a o)) ≡ false → foundOf a o .slot < length rs
       → let k = foundOf a o .slot in
       let z = lentAfter (grant (early b a) o (refused 13) granted (grantedCell q time) (parts rs st)) in
       (meaning (decided b (foundOf a o)) ≡ z .answer) × (set rs k (grantedRecord (q .filter) (q .timeout) (q .behaviour) time) ≡ z .after .records) × (cleared k st ≡ z .after .store)
@@ -112,7 +112,7 @@ module _ (q : Request) (time : ℕ) (rs : List Subscription) (st : List ℕ) (e 
   grants false false (some k) h n =
       (refl, rw (records-set (parts rs st) k (grantedCell q time), records-parts rs st) refl, rw (store-set rs st k (grantedCell q time) n long) (zeroed st k))
 
-  pub granted-follows : denied bad found ≡ false
+  pub granted-follows : denied (decided bad found) ≡ false
       → Follows (subscribe q time) rs st (meaning (decided bad found)) (set rs (found .slot) (grantedRecord (q .filter) (q .timeout) (q .behaviour) time)) (cleared (found .slot) st)
   granted-follows d =
       let z = grants bad (any (holding (q .filter)) rs) (lowest isFree rs) d (slot-there d .0) in

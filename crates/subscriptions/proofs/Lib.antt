@@ -1,7 +1,3 @@
-pub mod PartSweep
-pub mod ByValue
-pub mod SweepWalk
-pub mod Steps
 pub mod Values
 pub mod Slots
 pub mod Follow
@@ -10,6 +6,8 @@ pub mod Searching
 pub mod Granting
 pub mod Arriving
 pub mod Viewing
+pub mod Recording
+pub mod History
 pub mod AsClock
 pub mod AsMarked
 pub mod AsSweep
@@ -32,3 +30,6 @@ pub mod AsDelivered
 pub mod AsFree
 pub mod AsSlotAt
 pub mod AsReadRecord
+pub mod AsDeliver
+pub mod AsIsUncounted
+pub mod AsOutcomeOf

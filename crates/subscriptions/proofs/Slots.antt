@@ -24,7 +24,7 @@ use Rattle.subscription.proofs.Stepping.{one-small}
 use Rattle.subscriptions.specs.Sweep.{storeAfter, tallyAfter, noTally, lentSlots, sweptBy, Sweeps}
 use Rattle.subscriptions.specs.declared.Swept.{Swept}
 use Rattle.subscriptions.specs.declared.Swept.the-variants.{Done, Refused}
-use Rattle.subscriptions.proofs.PartSweep as sw
+use Rattle.walks.proofs.PartSweep as sw
 
 -- what `getD` gives past the end
 abbrev pub none : Subscription
@@ -42,8 +42,8 @@ Ok = Room
 abbrev pub lent : ℕ → ℕ → ℕ
 lent = lentSlots
 
-abbrev pub first : Event → Tally
-first ev = noTally
+abbrev pub first : Tally
+first = noTally
 
 abbrev pub answer : ℕ → ℕ → Tally → Swept
 answer = sweptBy
@@ -65,8 +65,8 @@ fitting n m false e = omega arith
 pub lent-fit : (n m : ℕ) → lent n m * 1432 ≤ m
 lent-fit n m = fitting n m (fits n m) refl
 
-pub first-ok : (n m : ℕ) (ev : Event) → n < 2 ^ 64 → Ok (lent n m) (first ev)
-first-ok n m ev h = record { matched = omega (arith, lent-few n m); changed = omega (arith, lent-few n m) }
+pub first-ok : (n m : ℕ) → n < 2 ^ 64 → Ok (lent n m) first
+first-ok n m h = record { matched = omega (arith, lent-few n m); changed = omega (arith, lent-few n m) }
 
 -- ---- the step at one slot
 
@@ -131,7 +131,7 @@ module _ (ev : Event) (d : List ℕ) where
   records-map (r ∷ rs) t st = ap (λ l. recordAfter ev (length d) r ∷ l) (records-map rs (tallied ev (length d) r t) (drop 1432 st))
 
   store-parts : (rs : List Subscription) (t : Tally) (st : List ℕ) → sw.stOf 1432 step part out acc rs t st ≡ storeAfter ev d rs st
-  unfolding sw.stOf
+  unfolding sw.stOf slotOctets
   store-parts [] t st = refl
   store-parts (r ∷ rs) t st = ap (λ l. partAfter ev d r (take 1432 st) ++ l) (store-parts rs (tallied ev (length d) r t) (drop 1432 st))
 

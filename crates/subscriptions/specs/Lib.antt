@@ -3,3 +3,4 @@ pub mod Calls
 pub mod Named
 pub mod Search
 pub mod Read
+pub mod Receive

@@ -12,7 +12,7 @@ use Rattle.subscription.specs.declared.Subscription.{Subscription}
 use Rattle.subscriptions.specs.declared.Released.{Released}
 use Rattle.subscriptions.specs.declared.Found.{Found}
 use Rattle.subscriptions.specs.declared.Answer.{Answer}
-use Rattle.subscriptions.specs.declared.Answer.the-variants.{Granted, Freed, Refused}
+use Rattle.subscriptions.specs.declared.Answer.the-variants.{Granted, Freed, Delivered, Marked, Refused}
 
 -- sizes are wrong, or there is no slot k
 abbrev pub away : ℕ → ℕ → ℕ → Bool
@@ -38,5 +38,10 @@ releasedStore r k store = cond (r .used) (cleared k store) store
 abbrev pub decided : Bool → Found → Answer
 decided bad s = cond bad (Refused 11) (cond (s .held) (Refused 12) (cond (s .free) (Granted (s .slot)) (Refused 13)))
 
-abbrev pub denied : Bool → Found → Bool
-denied bad s = cond bad true (cond (s .held) true (cond (s .free) false true))
+-- no slot is granted
+abbrev pub denied : Answer → Bool
+denied (Granted k) = false
+denied Freed = true
+denied (Delivered n) = true
+denied (Marked n) = true
+denied (Refused r) = true

@@ -1,7 +1,7 @@
 -- Reading a slot of a lent table.
 use Prim.Native.Nat.{ℕ, _*_}
 use mathlib.Core.Path.{_≡_}
-use mathlib.Core.List.{List}
+use mathlib.Core.List.{List, []}
 use mathlib.Core.Bool.{Bool, cond}
 use lib.Dec.{ltb}
 use Rattle.octets.specs.Octets.{part}
@@ -30,3 +30,12 @@ shown k set store (Refused r) = table.refused r
 -- whatever the substitute set is, the answer is the table's
 pub record Reads (k : ℕ) (records : List Subscription) (store : List ℕ) (r : Reading) : Type 0 where
   pub answers : (set : List ℕ) → shown k set store r ≡ step (table.read k set) (record { records = records; store = store }) .answer
+
+-- the octets that an answer shows; none where it shows nothing
+abbrev pub octetsOf : table.Answer → List ℕ
+octetsOf (table.granted k) = []
+octetsOf table.freed = []
+octetsOf (table.delivered n) = []
+octetsOf (table.marked n) = []
+octetsOf (table.shows state octets) = octets
+octetsOf (table.refused r) = []

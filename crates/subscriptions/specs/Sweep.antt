@@ -8,6 +8,7 @@ use Rattle.subscription.specs.declared.Event.{Event}
 use Rattle.subscription.specs.declared.Subscription.{Subscription}
 use Rattle.subscription.specs.declared.Tally.{Tally}
 use Rattle.subscription.specs.Step.{recordAfter, partAfter, tallied}
+use Rattle.subscription.specs.Slot.{slotOctets}
 use Rattle.subscription.specs.Table.{fits}
 use Rattle.subscriptions.specs.declared.Swept.{Swept}
 use Rattle.subscriptions.specs.declared.Swept.the-variants.{Done, Refused}
@@ -15,7 +16,7 @@ use Rattle.subscriptions.specs.declared.Swept.the-variants.{Done, Refuse
 -- slot k owns store octets 1432k to 1432k+1431: each part after the event, in order
 abbrev pub storeAfter : Event → List ℕ → List Subscription → List ℕ → List ℕ
 storeAfter ev dataset [] store = store
-storeAfter ev dataset (r ∷ rs) store = partAfter ev dataset r (take 1432 store) ++ storeAfter ev dataset rs (drop 1432 store)
+storeAfter ev dataset (r ∷ rs) store = partAfter ev dataset r (take slotOctets store) ++ storeAfter ev dataset rs (drop slotOctets store)
 
 -- the slots reached and changed, counted one after the other
 abbrev pub tallyAfter : Event → ℕ → List Subscription → Tally → Tally

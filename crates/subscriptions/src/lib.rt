@@ -1,5 +1,7 @@
 // The subscription table over lent memory: records, and a store of 1432 octets for each.
 use arrival::Arrival;
+use pd::PdTaken;
+use statistics::Statistics;
 use subscription::Event;
 use subscription::Filter;
 use subscription::Heard;
@@ -7,7 +9,6 @@ use subscription::State;
 use subscription::Subscription;
 use subscription::Tally;
 use telegram::Family;
-use topography::TopoCounts;
 ghost use mathlib.Core.Path.{_≡_};
 ghost use mathlib.Core.Bool.{cond, not};
 ghost use Prim.Native.Nat.{_+_, _*_, _≤_};
@@ -17,11 +18,12 @@ ghost use Rattle.subscription.specs.Slot.{pdChecks, heardOf};
 ghost use lib.ListN.{length, getD};
 ghost use Rattle.subscription.specs.Record.{unsound, freeRecord, grantedRecord};
 ghost use Rattle.subscription.specs.Table as table;
-ghost use Rattle.subscription.specs.Table.{fits};
+ghost use Rattle.subscription.specs.Table.{fits, step};
 ghost use Rattle.subscription.specs.declared.Event.the-variants.{Clock, Telegram};
 ghost use Rattle.subscriptions.specs.Calls.{Follows, meaning, markedBy, deliveredBy, endOf};
+ghost use Rattle.subscriptions.specs.Receive.{Receives, uncounted, outcomeOf};
 ghost use Rattle.subscriptions.specs.Search.{noneFound, looked, foundIn};
-ghost use Rattle.subscriptions.specs.Read.{Reads, readBy};
+ghost use Rattle.subscriptions.specs.Read.{Reads, readBy, shown, octetsOf};
 ghost use Rattle.subscriptions.specs.Named.{away, noSlot, cleared, releasedOf, releasedStore, decided, denied};
 ghost use Rattle.subscriptions.specs.Sweep.{Sweeps, lentSlots, sweptBy, noTally};
 
@@ -90,7 +92,7 @@ fn lent(slots: usize, octets: usize) -> usize
 }
 
 // Before the first slot nothing is counted.
-fn begin(ev: Event) -> Tally
+fn begin() -> Tally
     ensures { λ r. ⌜ r ≡ noTally ⌝ }
 {
     Tally {
@@ -106,7 +108,7 @@ fn reply(slots: usize, octets: usize, c: Tally) -> Swept
     if is_fit(slots, octets) {
         return Swept::Done(c);
     }
-    Swept::Refused(1)
+    Swept::Refused(refusal::SIZES)
 }
 
 // A telegram that passed checks 2 to 7, or the clock, at every slot. Sizes that are wrong are refused with 1.
@@ -114,7 +116,7 @@ pub fn sweep(t: &mut [Subscription], store: &mut [u8], ev: Event, dataset: &[u8]
     ensures { λ r. ⌜ Sweeps ev (now (dataset .entry)) (now (t .entry)) (now (store .entry)) r (now (t .exit)) (now (store .exit)) ⌝ }
 {
     let n = lent(t.len(), store.len());
-    let mut c = begin(ev);
+    let mut c = begin();
     let mut i: usize = 0;
     while i < n {
         let f = i * 1432;
@@ -166,9 +168,9 @@ fn refusal(slots: usize, octets: usize) -> Answer
     ensures { λ r. ⌜ r ≡ noSlot slots octets ⌝ }
 {
     if is_fit(slots, octets) {
-        return Answer::Refused(10);
+        return Answer::Refused(refusal::NO_SLOT);
     }
-    Answer::Refused(1)
+    Answer::Refused(refusal::SIZES)
 }
 
 // Slot k is freed and its part zeroed; a slot that is free is refused with 10, and all stays.
@@ -185,7 +187,7 @@ fn release(r: Subscription, store: &mut [u8], k: usize) -> Released
     }
     Released {
         slot: r,
-        answer: Answer::Refused(10),
+        answer: Answer::Refused(refusal::NO_SLOT),
     }
 }
 
@@ -265,31 +267,28 @@ fn decide(f: Filter, s: Found) -> Answer
     ensures { λ r. ⌜ r ≡ decided (unsound f) s ⌝ }
 {
     if subscription::is_unsound(f) {
-        return Answer::Refused(11);
+        return Answer::Refused(refusal::RANGE);
     }
     if s.held {
-        return Answer::Refused(12);
+        return Answer::Refused(refusal::FILTER_IN_USE);
     }
     if s.free {
         return Answer::Granted(s.slot);
     }
-    Answer::Refused(13)
+    Answer::Refused(refusal::NO_FREE_SLOT)
 }
 
 // No slot is granted.
-fn is_denied(f: Filter, s: Found) -> bool
-    ensures { λ r. ⌜ r ≡ denied (unsound f) s ⌝ }
+fn is_denied(x: Answer) -> bool
+    ensures { λ r. ⌜ r ≡ denied x ⌝ }
 {
-    if subscription::is_unsound(f) {
-        return true;
+    match x {
+        Answer::Granted(_) => false,
+        Answer::Freed => true,
+        Answer::Delivered(_) => true,
+        Answer::Marked(_) => true,
+        Answer::Refused(_) => true,
     }
-    if s.held {
-        return true;
-    }
-    if s.free {
-        return false;
-    }
-    true
 }
 
 // The record that slot k is granted with; its part is zeroed.
@@ -323,33 +322,29 @@ pub fn subscribe(
         return refusal(t.len(), store.len());
     }
     let s = search(t, f);
-    if is_denied(f, s) {
-        return decide(f, s);
+    let x = decide(f, s);
+    if is_denied(x) {
+        return x;
     }
     let k = s.slot;
     let r = prepare(f, timeout, behaviour, time, store, k);
     t[k] = r;
-    decide(f, s)
+    x
 }
 
 // The first refusal of 2 to 7; 0 where a datagram passes.
 fn judge(a: Arrival, datagram: &[u8]) -> u8
     ensures { λ r. ⌜ r ≡ firstOf (pdChecks a (now (datagram .entry))) ⌝ }
 {
-    let r = telegram::judge_datagram(Family::Pd, datagram);
-    if r != 0 {
-        return r;
-    }
-    let c = telegram::read_common(datagram);
-    let counts = TopoCounts {
-        etb_topo_cnt: c.etb_topo_cnt,
-        op_trn_topo_cnt: c.op_trn_topo_cnt,
+    let taken = pd::take_pd(datagram);
+    let PdTaken::Header(h) = taken else {
+        return pd::refusal(taken);
     };
-    let local = a.local;
-    if topography::pass(counts, local) {
+    let c = h.common;
+    if arrival::is_local(c, a) {
         return 0;
     }
-    7
+    refusal::TOPOGRAPHY
 }
 
 // A datagram was refused.
@@ -401,16 +396,16 @@ fn delivered(s: Swept) -> Answer
                 return Answer::Delivered(t.changed);
             }
             if 0 < t.matched {
-                return Answer::Refused(9);
+                return Answer::Refused(refusal::STALE);
             }
-            Answer::Refused(8)
+            Answer::Refused(refusal::NO_MATCH)
         }
         Swept::Refused(n) => Answer::Refused(n),
     }
 }
 
-// A PD datagram arrives: it is judged, and goes to every slot that it matches; or 1 to 9.
-pub fn receive(t: &mut [Subscription], store: &mut [u8], a: Arrival, datagram: &[u8]) -> Answer
+// A PD datagram is judged, and goes to every slot that it matches; or 1 to 9.
+fn deliver(t: &mut [Subscription], store: &mut [u8], a: Arrival, datagram: &[u8]) -> Answer
     ensures { λ r. ⌜ Follows (table.telegram a (now (datagram .entry))) (now (t .entry)) (now (store .entry)) (meaning r) (now (t .exit)) (now (store .exit)) ⌝ }
 {
     if is_unfit(t.len(), store.len()) {
@@ -424,6 +419,51 @@ pub fn receive(t: &mut [Subscription], store: &mut [u8], a: Arrival, datagram: &
     let e = dataset_end(datagram);
     let s = sweep(t, store, ev, &datagram[40..e]);
     delivered(s)
+}
+
+// The answer counts nothing: refusal 1, or no telegram's answer.
+fn is_uncounted(r: Answer) -> bool
+    ensures { λ q. ⌜ q ≡ uncounted (meaning r) ⌝ }
+{
+    match r {
+        Answer::Granted(_) => true,
+        Answer::Freed => true,
+        Answer::Delivered(_) => false,
+        Answer::Marked(_) => true,
+        Answer::Refused(n) => n == refusal::SIZES,
+    }
+}
+
+// A telegram's outcome: 0 delivered, else the refusal number.
+fn outcome_of(r: Answer) -> u8
+    ensures { λ q. ⌜ q ≡ outcomeOf (meaning r) ⌝ }
+{
+    match r {
+        Answer::Granted(_) => 0,
+        Answer::Freed => 0,
+        Answer::Delivered(_) => 0,
+        Answer::Marked(_) => 0,
+        Answer::Refused(n) => n,
+    }
+}
+
+// A PD datagram arrives: it is delivered or refused with 1 to 9, and the statistics count it.
+pub fn receive(
+    t: &mut [Subscription],
+    store: &mut [u8],
+    s: &mut Statistics,
+    a: Arrival,
+    datagram: &[u8],
+) -> Answer
+    ensures { λ r. ⌜ Receives a (now (datagram .entry)) (now (t .entry)) (now (store .entry)) (now (s .entry)) (meaning r) (now (t .exit)) (now (store .exit)) (now (s .exit)) ⌝ }
+{
+    let r = deliver(t, store, a, datagram);
+    if is_uncounted(r) {
+        return r;
+    }
+    let n = outcome_of(r);
+    statistics::record(s, Family::Pd, n);
+    r
 }
 
 // A free record.
@@ -444,13 +484,13 @@ pub fn slot_at(t: &[Subscription], k: usize) -> Subscription
 }
 
 // What a record shows: 1 where sizes are wrong or it says over 1432, 10 where it is free.
-fn read_record(slots: usize, octets: usize, r: Subscription) -> Reading
+pub fn read_record(slots: usize, octets: usize, r: Subscription) -> Reading
     ensures { λ q. ⌜ q ≡ readBy (fits slots octets) r ⌝ }
 {
     if is_fit(slots, octets) {
         if r.used {
             if 1432 < r.length {
-                return Reading::Refused(1);
+                return Reading::Refused(refusal::SIZES);
             }
             return Reading::Shows(View {
                 state: subscription::state_of(r),
@@ -458,9 +498,9 @@ fn read_record(slots: usize, octets: usize, r: Subscription) -> Reading
                 length: r.length,
             });
         }
-        return Reading::Refused(10);
+        return Reading::Refused(refusal::NO_SLOT);
     }
-    Reading::Refused(1)
+    Reading::Refused(refusal::SIZES)
 }
 
 // Reading slot k: its state, and which octets it shows, or 1, 10.
@@ -469,4 +509,29 @@ pub fn read(t: &[Subscription], store: &[u8], k: usize) -> Reading
 {
     let r = slot_at(t, k);
     read_record(t.len(), store.len(), r)
+}
+
+// The octets that record r shows as slot k: the substitute set whole, or the first octets of its part; none where reading refuses.
+fn show_record<'a>(
+    slots: usize,
+    r: Subscription,
+    k: usize,
+    store: &'a [u8],
+    substitute: &'a [u8],
+) -> &'a [u8]
+    ensures { λ v. ⌜ now v ≡ octetsOf (shown k (now (substitute .entry)) (now (store .entry)) (readBy (fits slots (length (now (store .entry)))) r)) ⌝ }
+{
+    let q = read_record(slots, store.len(), r);
+    let Reading::Shows(_) = q else {
+        return &store[..0];
+    };
+    subscription::show(r, k, store, substitute)
+}
+
+// The octets that reading slot k shows, part of the store or of the substitute set; none where it refuses.
+pub fn show<'a>(t: &[Subscription], store: &'a [u8], k: usize, substitute: &'a [u8]) -> &'a [u8]
+    ensures { λ v. ⌜ now v ≡ octetsOf (step (table.read k (now (substitute .entry))) (record { records = now (t .entry); store = now (store .entry) }) .answer) ⌝ }
+{
+    let r = slot_at(t, k);
+    show_record(t.len(), r, k, store, substitute)
 }

@@ -25,7 +25,9 @@ array-read-if1-2 : tie.Need-array-read-if1-2 Inv-loop μ-loop
 array-read-if1-2 c = search needs
 
 returns : tie.Need-returns Inv-loop μ-loop
-returns c = sym (c .before .before .loop .inv .3 ∙ equal-differ (c .before .before .before .args .t1) (c .before .before .before .args .t2) (c .before .before .loop .i) (omega arith) (omega arith) (c .if1 .taken))
+returns c =
+    let a = c .before .before .before .args in
+    sym (c .before .before .loop .inv .3 ∙ equal-differ (a .t1) (a .t2) (c .before .before .loop .i) (omega arith) (omega arith) (c .if1 .taken))
 
 add-i : tie.Need-add-i Inv-loop μ-loop
 add-i c = search needs
@@ -34,10 +36,14 @@ loop-less : tie.Need-loop-less Inv-loop μ-loop
 loop-less c = search needs
 
 loop-again : tie.Need-loop-again Inv-loop μ-loop
-loop-again c = (omega arith, c .before .before .loop .inv .1, c .before .before .loop .inv .2, c .before .before .loop .inv .3 ∙ equal-next (c .before .before .before .args .t1) (c .before .before .before .args .t2) (c .before .before .loop .i) (omega arith) (omega arith) (c .if1 .left))
+loop-again c =
+    let a = c .before .before .before .args in
+    (omega arith, c .before .before .loop .inv .1, c .before .before .loop .inv .2, c .before .before .loop .inv .3 ∙ equal-next (a .t1) (a .t2) (c .before .before .loop .i) (omega arith) (omega arith) (c .if1 .left))
 
 returns-2 : tie.Need-returns-2 Inv-loop μ-loop
-returns-2 c = sym (c .before .loop .inv .3 ∙ equal-end (c .before .before .args .t1) (c .before .before .args .t2) (c .before .loop .i) (omega arith) (omega arith))
+returns-2 c =
+    let a = c .before .before .args in
+    sym (c .before .loop .inv .3 ∙ equal-end (a .t1) (a .t2) (c .before .loop .i) (omega arith) (omega arith))
 
 pub are-equal-spec : {M : Type 1} → statement M
 are-equal-spec =

@@ -10,7 +10,9 @@ opened-as-requires : tie.Need-opened-as-requires
 opened-as-requires c κs = search needs
 
 returns : tie.Need-returns
-returns c = called (c .before .before .before .before .before .args .id) (c .before .before .before .before .before .args .timeout) (c .before .before .before .before .before .args .time) (c .before .before .before .before .before .args .t) (c .before .before .before .«open» .result) (c .opened-as .result) (c .before .before .before .«open» .ensures) (c .opened-as .ensures)
+returns c =
+    let a = c .before .before .before .before .before .args in
+    called (a .id) (a .timeout) (a .time) (a .t) (c .before .before .before .«open» .result) (c .opened-as .result) (c .before .before .before .«open» .ensures) (c .opened-as .ensures)
 
 pub call-spec : {M : Type 1} → statement M
 call-spec = tie.close (tie.spec open-requires opened-as-requires returns)

@@ -17,7 +17,9 @@ refuse-requires : tie.Need-refuse-requires
 refuse-requires c κs = search needs
 
 returns : tie.Need-returns
-returns c = slot-free (table.confirm (c .before .before .before .before .before .args .k)) (c .before .before .before .before .before .args .t) (c .refuse .result) owesConfirm Confirmed table.ended (c .before .before .before .before .before .args .k) (confirm-step (c .before .before .before .before .before .args .k) (c .before .before .before .before .before .args .t)) (c .before .before .before .session-at .result) (c .before .before .before .session-at .ensures) (sym (c .before .before .is-free .ensures) ∙ c .before .if1 .taken) (c .refuse .ensures)
+returns c =
+    let a = c .before .before .before .before .before .args in
+    slot-free (table.confirm (a .k)) (a .t) (c .refuse .result) owesConfirm Confirmed table.ended (a .k) (confirm-step (a .k) (a .t)) (c .before .before .before .session-at .result) (c .before .before .before .session-at .ensures) (sym (c .before .before .is-free .ensures) ∙ c .before .if1 .taken) (c .refuse .ensures)
 
 owes-confirm-requires : tie.Need-owes-confirm-requires
 owes-confirm-requires c κs = search needs
@@ -29,13 +31,17 @@ keep-requires : tie.Need-keep-requires
 keep-requires c κs = search needs
 
 returns-2 : tie.Need-returns-2
-returns-2 c = slot-done (table.confirm (c .before .before .before .before .before .before .before .before .args .k)) (c .before .before .before .before .before .before .before .before .args .t) (c .keep .result) owesConfirm Confirmed table.ended (c .before .before .before .before .before .before .before .before .args .k) (confirm-step (c .before .before .before .before .before .before .before .before .args .k) (c .before .before .before .before .before .before .before .before .args .t)) (c .before .before .before .before .before .before .session-at .result) (c .before .before .before .before .before .before .session-at .ensures) (sym (c .before .before .before .before .before .is-free .ensures) ∙ c .before .before .before .before .if1 .left) (sym (c .before .before .before .owes-confirm .ensures) ∙ c .before .before .if2 .taken) (c .before .no-session .result) (c .before .no-session .ensures) (c .keep .ensures)
+returns-2 c =
+    let a = c .before .before .before .before .before .before .before .before .args in
+    slot-done (table.confirm (a .k)) (a .t) (c .keep .result) owesConfirm Confirmed table.ended (a .k) (confirm-step (a .k) (a .t)) (c .before .before .before .before .before .before .session-at .result) (c .before .before .before .before .before .before .session-at .ensures) (sym (c .before .before .before .before .before .is-free .ensures) ∙ c .before .before .before .before .if1 .left) (sym (c .before .before .before .owes-confirm .ensures) ∙ c .before .before .if2 .taken) (c .before .no-session .result) (c .before .no-session .ensures) (c .keep .ensures)
 
 refuse-requires-2 : tie.Need-refuse-requires-2
 refuse-requires-2 c κs = search needs
 
 returns-3 : tie.Need-returns-3
-returns-3 c = slot-other (table.confirm (c .before .before .before .before .before .before .before .args .k)) (c .before .before .before .before .before .before .before .args .t) (c .refuse2 .result) owesConfirm Confirmed table.ended (c .before .before .before .before .before .before .before .args .k) (confirm-step (c .before .before .before .before .before .before .before .args .k) (c .before .before .before .before .before .before .before .args .t)) (c .before .before .before .before .before .session-at .result) (c .before .before .before .before .before .session-at .ensures) (sym (c .before .before .before .before .is-free .ensures) ∙ c .before .before .before .if1 .left) (sym (c .before .before .owes-confirm .ensures) ∙ c .before .if2 .left) (c .refuse2 .ensures)
+returns-3 c =
+    let a = c .before .before .before .before .before .before .before .args in
+    slot-other (table.confirm (a .k)) (a .t) (c .refuse2 .result) owesConfirm Confirmed table.ended (a .k) (confirm-step (a .k) (a .t)) (c .before .before .before .before .before .session-at .result) (c .before .before .before .before .before .session-at .ensures) (sym (c .before .before .before .before .is-free .ensures) ∙ c .before .before .before .if1 .left) (sym (c .before .before .owes-confirm .ensures) ∙ c .before .if2 .left) (c .refuse2 .ensures)
 
 pub confirm-spec : {M : Type 1} → statement M
 confirm-spec =

@@ -1,9 +1,7 @@
-use mathlib.Core.Path.{_≡_, sym, ap}
+use mathlib.Core.Path.{ap}
 use native.Mathlib.Omega.{arith}
-use lib.Seq.{set-out}
-use lib.ListN.{length}
 use borrow.Author.Needs.{needs}
-use Rattle.session.proofs.Arrays.{length-mapped}
+use Rattle.session.proofs.Arrays.{length-mapped, stored-outside}
 use Rattle.session.proofs.keep.Statement.{statement}
 use Rattle.session.proofs.keep.Tie as tie
 
@@ -18,8 +16,8 @@ returns c = search needs
 
 returns-2 : tie.Need-returns-2
 returns-2 c =
-    let n : length (c .before .before .before .args .t .sessions) ≡ 16 = search (needs, length-mapped) in
-    ap (λ ys. record { tables = record { listeners = c .before .before .before .args .t .listeners; sessions = ys }; answer = c .before .before .before .args .answer }) (sym (set-out (c .before .before .before .args .t .sessions) (c .before .before .before .args .k) (c .before .before .before .args .x) (omega (arith, n, c .if1 .left))))
+    let a = c .before .before .before .args in
+    ap (λ ys. record { tables = record { listeners = a .t .listeners; sessions = ys }; answer = a .answer }) (stored-outside (a .t .sessions) 16 (a .k) (a .x) (search (needs, length-mapped)) (omega arith))
 
 pub keep-spec : {M : Type 1} → statement M
 keep-spec = tie.close (tie.spec mul-xs array-set-from-xs returns returns-2)

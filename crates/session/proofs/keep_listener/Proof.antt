@@ -1,9 +1,7 @@
-use mathlib.Core.Path.{_≡_, sym, ap}
+use mathlib.Core.Path.{ap}
 use native.Mathlib.Omega.{arith}
-use lib.Seq.{set-out}
-use lib.ListN.{length}
 use borrow.Author.Needs.{needs}
-use Rattle.session.proofs.Arrays.{length-mapped}
+use Rattle.session.proofs.Arrays.{length-mapped, stored-outside}
 use Rattle.session.proofs.keep_listener.Statement.{statement}
 use Rattle.session.proofs.keep_listener.Tie as tie
 
@@ -18,8 +16,8 @@ returns c = search needs
 
 returns-2 : tie.Need-returns-2
 returns-2 c =
-    let n : length (c .before .before .before .args .t .listeners) ≡ 16 = search (needs, length-mapped) in
-    ap (λ ys. record { tables = record { listeners = ys; sessions = c .before .before .before .args .t .sessions }; answer = c .before .before .before .args .answer }) (sym (set-out (c .before .before .before .args .t .listeners) (c .before .before .before .args .k) (c .before .before .before .args .l) (omega (arith, n, c .if1 .left))))
+    let a = c .before .before .before .args in
+    ap (λ ys. record { tables = record { listeners = ys; sessions = a .t .sessions }; answer = a .answer }) (stored-outside (a .t .listeners) 16 (a .k) (a .l) (search (needs, length-mapped)) (omega arith))
 
 pub keep-listener-spec : {M : Type 1} → statement M
 keep-listener-spec = tie.close (tie.spec mul-ls array-set-from-ls returns returns-2)

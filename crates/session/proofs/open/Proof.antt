@@ -15,7 +15,9 @@ has-session-requires : tie.Need-has-session-requires
 has-session-requires c κs = search needs
 
 returns : tie.Need-returns
-returns c = in-use (c .before .before .args .id) (c .before .before .args .state) (c .before .before .args .xs) (sym (c .before .has-session .ensures) ∙ c .if1 .taken)
+returns c =
+    let a = c .before .before .args in
+    in-use (a .id) (a .state) (a .xs) (sym (c .before .has-session .ensures) ∙ c .if1 .taken)
 
 free-session-requires : tie.Need-free-session-requires
 free-session-requires c κs = search needs
@@ -27,7 +29,9 @@ enum-told : tie.Need-enum-told
 enum-told c = search needs
 
 returns-2 : tie.Need-returns-2
-returns-2 c = full (c .before .before .before .before .before .args .id) (c .before .before .before .before .before .args .state) (c .before .before .before .before .before .args .xs) (sym (c .before .before .before .before .has-session .ensures) ∙ c .before .before .before .if1 .left) (found-none _ (sym (c .before .before .free-session .ensures) ∙ c .enum-told .given .1))
+returns-2 c =
+    let a = c .before .before .before .before .before .args in
+    full (a .id) (a .state) (a .xs) (sym (c .before .before .before .before .has-session .ensures) ∙ c .before .before .before .if1 .left) (found-none _ (sym (c .before .before .free-session .ensures) ∙ c .enum-told .given .1))
 
 mul-ys : tie.Need-mul-ys
 mul-ys c = search needs
@@ -36,12 +40,15 @@ array-set-from-ys : tie.Need-array-set-from-ys
 array-set-from-ys c = search needs
 
 returns-3 : tie.Need-returns-3
-returns-3 c = slot (c .before .before .before .before .before .before .before .args .id) (c .before .before .before .before .before .before .before .args .state) (c .before .before .before .before .before .before .before .args .xs) _ (sym (c .before .before .before .before .before .before .has-session .ensures) ∙ c .before .before .before .before .before .if1 .left) (found-some _ _ (sym (c .before .before .before .before .free-session .ensures) ∙ c .before .before .f .given .1))
+returns-3 c =
+    let a = c .before .before .before .before .before .before .before .args in
+    slot (a .id) (a .state) (a .xs) _ (sym (c .before .before .before .before .before .before .has-session .ensures) ∙ c .before .before .before .before .before .if1 .left) (found-some _ _ (sym (c .before .before .before .before .free-session .ensures) ∙ c .before .before .f .given .1))
 
 returns-4 : tie.Need-returns-4
 returns-4 c =
-    let l = lowest-is (λ (x : Session). isFree (x .state)) freeSession (c .before .before .before .before .before .before .before .args .xs) _ (found-some _ _ (sym (c .before .before .before .before .free-session .ensures) ∙ c .before .before .f .given .1)) in
-    let n : length (c .before .before .before .before .before .before .before .args .xs) ≡ 16 = search (needs, length-mapped) in
+    let a = c .before .before .before .before .before .before .before .args in
+    let l = lowest-is (λ (x : Session). isFree (x .state)) freeSession (a .xs) _ (found-some _ _ (sym (c .before .before .before .before .free-session .ensures) ∙ c .before .before .f .given .1)) in
+    let n : length (a .xs) ≡ 16 = search (needs, length-mapped) in
     absurd (omega (arith, l .0, c .if2 .left))
 
 pub open-spec : {M : Type 1} → statement M

@@ -13,13 +13,17 @@ keep-listener-requires : tie.Need-keep-listener-requires
 keep-listener-requires c κs = search needs
 
 returns : tie.Need-returns
-returns c = unlisten-done (c .before .before .before .before .before .args .k) (c .before .before .before .before .before .args .t) (c .keep-listener .result) (c .before .before .before .listener-at .result) (c .before .before .before .listener-at .ensures) (c .before .before .if1 .taken) (c .before .no-listener .result) (c .before .no-listener .ensures) (c .keep-listener .ensures)
+returns c =
+    let a = c .before .before .before .before .before .args in
+    unlisten-done (a .k) (a .t) (c .keep-listener .result) (c .before .before .before .listener-at .result) (c .before .before .before .listener-at .ensures) (c .before .before .if1 .taken) (c .before .no-listener .result) (c .before .no-listener .ensures) (c .keep-listener .ensures)
 
 refuse-requires : tie.Need-refuse-requires
 refuse-requires c κs = search needs
 
 returns-2 : tie.Need-returns-2
-returns-2 c = unlisten-none (c .before .before .before .before .args .k) (c .before .before .before .before .args .t) (c .refuse .result) (c .before .before .listener-at .result) (c .before .before .listener-at .ensures) (c .before .if1 .left) (c .refuse .ensures)
+returns-2 c =
+    let a = c .before .before .before .before .args in
+    unlisten-none (a .k) (a .t) (c .refuse .result) (c .before .before .listener-at .result) (c .before .before .listener-at .ensures) (c .before .if1 .left) (c .refuse .ensures)
 
 pub unlisten-spec : {M : Type 1} → statement M
 unlisten-spec =

@@ -1,40 +1,41 @@
--- Checks 2 to 6 come before topography.
+-- Taking the datagram apart judges 2 to 6, its header's counters 7.
 use mathlib.Core.Path.{sym, _∙_, ap}
-use native.Mathlib.Omega.{arith}
-use Rattle.telegram.specs.declared.Family.the-variants as family
-use Rattle.telegram.proofs.Reading.{sound, whole}
-use Rattle.subscriptions.proofs.Arriving.{arrival-first, weighed, then-topography}
+use Rattle.subscriptions.proofs.Arriving.{weighed, taken-refused, taken-judged}
 use borrow.Author.Needs.{needs}
 use Rattle.subscriptions.proofs.judge.Statement.{statement}
 use Rattle.subscriptions.proofs.judge.Tie as tie
 
-judge-datagram-requires : tie.Need-judge-datagram-requires
-judge-datagram-requires c κs = search needs
+take-pd-requires : tie.Need-take-pd-requires
+take-pd-requires c κs = search needs
+
+enum-known-taken : tie.Need-enum-known-taken
+enum-known-taken c = search needs
+
+enum-told : tie.Need-enum-told
+enum-told c = search needs
+
+refusal-requires : tie.Need-refusal-requires
+refusal-requires c κs = search needs
 
 returns : tie.Need-returns
 returns c =
-    let x = c .before .before .before .args in
-    arrival-first (x .a) (x .datagram .now) _ (c .before .judge-datagram .ensures) (c .if1 .taken)
+    let x = c .before .before .before .before .before .args in
+    c .refusal .ensures ∙ taken-refused (x .a) (x .datagram .now) _ (c .before .before .before .take-pd .ensures) _ (c .before .enum-told .given .1)
 
-read-common-requires : tie.Need-read-common-requires
-read-common-requires c κs =
-    let d = c .before .before .before .args .datagram .now in
-    omega (arith, sound family.Pd d (whole family.Pd d (sym (c .before .judge-datagram .ensures) ∙ c .if1 .left) .0) .size)
-
-pass-requires : tie.Need-pass-requires
-pass-requires c κs = search needs
+is-local-requires : tie.Need-is-local-requires
+is-local-requires c κs = search needs
 
 returns-2 : tie.Need-returns-2
 returns-2 c =
-    sym (ap weighed (c .if2 .taken))
-    ∙ then-topography (c .before .before .before .before .before .before .before .args .a) (c .before .before .before .before .before .before .before .args .datagram .now) _ _ (c .before .before .before .read-common .ensures) (c .before .pass .ensures)
-    (sym (c .before .before .before .before .before .judge-datagram .ensures) ∙ c .before .before .before .before .if1 .left)
+    let x = c .before .before .before .before .before .before .before .before .args in
+    sym (ap weighed (c .if1 .taken))
+    ∙ taken-judged (x .a) (x .datagram .now) _ (c .before .before .before .before .before .before .take-pd .ensures) _ _ (c .before .before .before .before .taken .given .1) (c .before .is-local .ensures)
 
 returns-3 : tie.Need-returns-3
 returns-3 c =
-    sym (ap weighed (c .if2 .left))
-    ∙ then-topography (c .before .before .before .before .before .before .before .args .a) (c .before .before .before .before .before .before .before .args .datagram .now) _ _ (c .before .before .before .read-common .ensures) (c .before .pass .ensures)
-    (sym (c .before .before .before .before .before .judge-datagram .ensures) ∙ c .before .before .before .before .if1 .left)
+    let x = c .before .before .before .before .before .before .before .before .args in
+    sym (ap weighed (c .if1 .left))
+    ∙ taken-judged (x .a) (x .datagram .now) _ (c .before .before .before .before .before .before .take-pd .ensures) _ _ (c .before .before .before .before .taken .given .1) (c .before .is-local .ensures)
 
 pub judge-spec : {M : Type 1} → statement M
-judge-spec = tie.close (tie.spec judge-datagram-requires returns read-common-requires pass-requires returns-2 returns-3)
+judge-spec = tie.close (tie.spec take-pd-requires enum-known-taken enum-told refusal-requires returns is-local-requires returns-2 returns-3)

@@ -1,4 +1,5 @@
 -- The first test that applies answers; a record in use shows its state.
+use Prim.Native.Nat.{_<_, _≤_}
 use borrow.Author.Needs.{needs}
 use borrow.Author.Tests.{lt-ltb, le-ltb}
 use Rattle.subscription.specs.Slot.{slotOctets}
@@ -10,7 +11,9 @@ is-fit-requires c κs = search needs
 
 returns : tie.Need-returns
 unfolding slotOctets
-returns c = rw (← c .before .before .before .before .is-fit .ensures, c .before .before .before .if1 .taken, c .before .before .if2 .taken, lt-ltb _ _ (c .if3 .taken))
+returns c =
+    let over : slotOctets < c .before .before .before .before .before .args .r .length = c .if3 .taken in
+    rw (← c .before .before .before .before .is-fit .ensures, c .before .before .before .if1 .taken, c .before .before .if2 .taken, lt-ltb _ _ over)
 
 state-of-requires : tie.Need-state-of-requires
 state-of-requires c κs = search needs
@@ -21,11 +24,12 @@ is-substituted-requires c κs = search needs
 returns-2 : tie.Need-returns-2
 unfolding slotOctets
 returns-2 c =
+    let within : c .before .before .before .before .before .before .before .args .r .length ≤ slotOctets = c .before .before .if3 .left in
     rw (
       ← c .before .before .before .before .before .before .is-fit .ensures,
       c .before .before .before .before .before .if1 .taken,
       c .before .before .before .before .if2 .taken,
-      le-ltb _ _ (c .before .before .if3 .left),
+      le-ltb _ _ within,
       c .before .state-of .ensures,
       c .is-substituted .ensures,
     )

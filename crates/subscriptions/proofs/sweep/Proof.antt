@@ -39,14 +39,14 @@ use denote.Triple.Statement.{Contract, Triple}
 use denote.Triple.Table.{entered, cited}
 use denote.Triple.Walked.{says, Stays, stay-slice, stay-none, stay-none-slice, walkOf, goes-slice, goes-none, goes-none-slice, Walks, ends-at, walked, walk-meets}
 use Rattle.subscriptions.proofs.Slots as D
-use Rattle.subscriptions.proofs.PartSweep.{SweptUpto}
+use Rattle.walks.proofs.PartSweep.{SweptUpto}
 use Rattle.subscription.specs.declared.Subscription.{Subscription}
 use Rattle.subscription.specs.declared.Tally.{Tally}
 use Rattle.subscription.specs.declared.Stepped.{Stepped}
 use Rattle.subscription.specs.declared.Event.{Event}
 use Rattle.subscriptions.specs.declared.Swept.{Swept}
-use Rattle.subscriptions.proofs.ByValue as B
-use Rattle.subscriptions.proofs.SweepWalk as P
+use Rattle.walks.proofs.ByValue as B
+use Rattle.walks.proofs.SweepWalk as P
 use Rattle.subscription.proofs.Subscription as X
 use Rattle.subscription.proofs.Subscription.Laws as X′
 use Rattle.subscription.proofs.Tally as Y
@@ -119,10 +119,10 @@ module _ {M : Type 1} (𝓤 : URA M) (H : Heap 𝓤) (A : Atoms 𝓤) (W : Given
         (qed W [] ∵ nothing ! $ owned ! (by′ .R) (Is (by′ .R)) (by′ .makes) c _ is $ fjoin ! $ owned ! usize (Is usize) (uint-makes 𝓤 H A W w64) m _ (refl, mf) $ fjoin ! $ owned ! usize (Is usize) (uint-makes 𝓤 H A W w64) n _ (refl, nf) $ fjoin ! $ nothing ! $ join ! $ frame ! $ done !)
         (λ v. id⊢ 𝓤 _) (λ r. exE 𝓤 _ (λ ws. snd∗ 𝓤 (sem 𝓤 H A (lasts a.ended tt (n, (m, (c, tt))) ws)) (fact 𝓤 (r ≡ D.answer n m c))))
 
-  begins : (𝓣 : Tables 𝓤 H) → Triple 𝓤 (𝓣 .C #b) Gb → (e : Event) → Is E.the-row e (be .val e ∷ []) → B.Answers 𝓤 H A W 𝓣 #b (be .val e ∷ []) Y.the-row (D.first e)
-  begins 𝓣 known e is = B.answers 𝓤 H A W 𝓣 #b Gb known ((tt, tt, tt, (e, tt), (be .val e ∷ [], tt)), tt) Y.the-row (D.first e) (λ r. ensured 𝓤 H A b.ended (b.clauses 𝓤 H A mem run) tt (e, tt) tt r)
-      (qed W [] ∵ nothing ! $ owned ! (be .R) (Is (be .R)) (be .makes) e _ is $ fjoin ! $ nothing ! $ join ! $ frame ! $ done !)
-      (λ v. id⊢ 𝓤 _) (λ r. exE 𝓤 _ (λ ws. snd∗ 𝓤 (sem 𝓤 H A (lasts b.ended tt (e, tt) ws)) (fact 𝓤 (r ≡ D.first e))))
+  begins : (𝓣 : Tables 𝓤 H) → Triple 𝓤 (𝓣 .C #b) Gb → B.Answers 𝓤 H A W 𝓣 #b [] Y.the-row D.first
+  begins 𝓣 known = B.answers 𝓤 H A W 𝓣 #b Gb known ((tt, tt, tt, tt, tt), tt) Y.the-row D.first (λ r. ensured 𝓤 H A b.ended (b.clauses 𝓤 H A mem run) tt tt tt r)
+      (qed W [] ∵ nothing ! $ nothing ! $ join ! $ frame ! $ done !)
+      (λ v. id⊢ 𝓤 _) (λ r. exE 𝓤 _ (λ ws. snd∗ 𝓤 (sem 𝓤 H A (lasts b.ended tt tt ws)) (fact 𝓤 (r ≡ D.first))))
 
   -- the step: what it is handed, and what it answers
   module _ (b₂ : ℕ) (κ₃ : Lft) (q₃ : Share) (dd : RefT (List ℕ)) (e : Event) (s : Subscription) (a : Tally) (p : List ℕ) (α : ℕ) (δ : GName) (o′ : ℕ) where
@@ -173,7 +173,7 @@ module _ {M : Type 1} (𝓤 : URA M) (H : Heap 𝓤) (A : Atoms 𝓤) (W : Given
     Post = walkOf 𝓤 H A f.ended stayed (f.clauses 𝓤 H A mem run) .post bound
 
     exits : (zs : List Subscription) (us : List ℕ) (r : Swept)
-        → SweptUpto 1432 (D.step e₀ (dd .now)) (D.part e₀ (dd .now)) D.out D.acc (D.lent (length (t .now)) (length (s .now))) (D.answer (length (t .now)) (length (s .now))) (t .now) (D.first e₀) (s .now) zs us r
+        → SweptUpto 1432 (D.step e₀ (dd .now)) (D.part e₀ (dd .now)) D.out D.acc (D.lent (length (t .now)) (length (s .now))) (D.answer (length (t .now)) (length (s .now))) (t .now) D.first (s .now) zs us r
         → length zs ≡ length (t .now) → length us ≡ length (s .now) → Is R.the-row r (br .val r ∷ [])
         → ent 𝓤 (⋆ 𝓤 H A (‵ (fobs (t .name) (codedHoleys X.the-row .code (heres X.the-row zs))) ∷ ‵ (fbor κ (Held X.the-row (length zs) (t .ptr .0) (t .ptr .1) (t .name))) ∷ ‵ (flft κ q) ∷ ‵ (O.MutSlice erased κ₂ u8 .own (record { ptr = s .ptr; name = s .name; now = us })) ∷ ‵ (flft κ₂ q₂) ∷ ‵ (ShrSlice (named 2) κ₃ u8 .own dd (slice-vals dd)) ∷ ‵ (flft κ₃ q₃) ∷ [])) (Post (br .val r))
     exits zs us r e l l₂ is =
@@ -210,7 +210,7 @@ module _ {M : Type 1} (𝓤 : URA M) (H : Heap 𝓤) (A : Atoms 𝓤) (W : Given
           part = D.part (a .1 .1 .0) (a .1 .1 .1 .0 .now);
           same = D.same (a .1 .1 .0) (a .1 .1 .1 .0 .now);
           n = D.lent (length (a .0 .now)) (length (a .1 .0 .now));
-          y₀ = D.first (a .1 .1 .0);
+          y₀ = D.first;
           fin = D.answer (length (a .0 .now)) (length (a .1 .0 .now));
           Ok = D.Ok;
           ok = D.goes-on (a .1 .1 .0) (a .1 .1 .1 .0 .now);
@@ -219,7 +219,7 @@ module _ {M : Type 1} (𝓤 : URA M) (H : Heap 𝓤) (A : Atoms 𝓤) (W : Given
               (goes (a .1 .0 .ptr .0) (κs .1 .1 .0) (qs .1 .1 .0) (a .1 .1 .1 .0) (a .1 .1 .0) s y p α δ o′ m ok l is is′ (are .1 .1 .0)) (known (to (a .1 .0 .ptr .0) (κs .1 .1 .0) (qs .1 .1 .0) (a .1 .1 .1 .0) (a .1 .1 .0) s y p α δ o′));
           gives = λ s y p α δ o′ v. gives (a .1 .0 .ptr .0) (κs .1 .1 .0) (qs .1 .1 .0) (a .1 .1 .1 .0) (a .1 .1 .0) s y p α δ o′ v;
           head = lends 𝓣 (length (a .0 .now)) (length (a .1 .0 .now)) (are .0 .0 .1 .0) (are .1 .0 .0 .1 .0) known-h;
-          begins = begins 𝓣 known-b (a .1 .1 .0) (are .1 .1 .0);
+          begins = begins 𝓣 known-b;
           last = λ y is. replies 𝓣 (length (a .0 .now)) (length (a .1 .0 .now)) (are .0 .0 .1 .0) (are .1 .0 .0 .1 .0) known-a y is;
           room = are .0 .0 .1;
           room₂ = are .1 .0 .0 .1;
@@ -227,7 +227,7 @@ module _ {M : Type 1} (𝓤 : URA M) (H : Heap 𝓤) (A : Atoms 𝓤) (W : Given
           few = D.lent-few (length (a .0 .now)) (length (a .1 .0 .now));
           enough = D.lent-fit (length (a .0 .now)) (length (a .1 .0 .now));
           e-is = are .1 .1 .0;
-          y-ok = D.first-ok (length (a .0 .now)) (length (a .1 .0 .now)) (a .1 .1 .0) (are .0 .0 .1 .0);
+          y-ok = D.first-ok (length (a .0 .now)) (length (a .1 .0 .now)) (are .0 .0 .1 .0);
           exits = exits (κs .0) (qs .0) (a .0) (κs .1 .0) (qs .1 .0) (a .1 .0) (κs .1 .1 .0) (qs .1 .1 .0) (a .1 .1 .1 .0) (a .1 .1 .0) (are .0 .0 .1) (are .1 .1 .0);
         })))
 

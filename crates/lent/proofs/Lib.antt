@@ -1,0 +1,10 @@
+pub mod Own
+pub mod Values
+pub mod Serving
+pub mod AsAtMost
+pub mod AsSubscribe
+pub mod AsUnsubscribe
+pub mod AsTimeCheck
+pub mod AsRead
+pub mod AsReceive
+pub mod AsSessionReceive

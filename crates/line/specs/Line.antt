@@ -1,0 +1,60 @@
+-- A line taken apart: its verb, and fields of hexadecimal digits with a single space before each.
+use Prim.Native.Nat.{ℕ, _+_, _*_, _-_, _/_}
+use mathlib.Core.List.{List, [], _∷_}
+use mathlib.Core.Bool.{Bool, true, false, cond, not, _&&_}
+use lib.Dec.{eqb, ltb, leb}
+use lib.ListN.{length, getD}
+use Rattle.octets.specs.Octets.{part}
+use Rattle.capture.specs.Hex.{isHex, number, octetsOf}
+use Rattle.line.specs.declared.Field.{Field}
+use Rattle.line.specs.declared.Count.{Count}
+
+-- a line's verb stands before its first space, or is the whole line
+abbrev pub verbIs : List ℕ → List ℕ → Bool
+verbIs [] [] = true
+verbIs (x ∷ s) [] = eqb x 32
+verbIs [] (y ∷ verb) = false
+verbIs (x ∷ s) (y ∷ verb) = eqb x y && verbIs s verb
+
+-- a space at a place, and n digits behind it
+abbrev pub hasDigits : List ℕ → ℕ → ℕ → Bool
+hasDigits s at n = ltb (at + n) (length s) && (eqb (getD s at 0) 32 && isHex (part n (at + 1) s))
+
+-- a line of another form from a place on
+abbrev pub badAt : ℕ → Field
+badAt at = record { value = 0; next = at; «is_bad» = true }
+
+-- a field that was read up to a place
+abbrev pub readTo : ℕ → ℕ → Field
+readTo value next = record { value = value; next = next; «is_bad» = false }
+
+-- a field of n digits behind another, that says a value
+abbrev pub fieldOf : ℕ → List ℕ → Field → ℕ → Field
+fieldOf value s f n =
+    cond (f .«is_bad») f (cond (hasDigits s (f .next) n) (readTo value (f .next + 1 + n)) (badAt (f .next)))
+
+-- the number that n digits write
+abbrev pub numberField : List ℕ → Field → ℕ → Field
+numberField s f n = fieldOf (number 0 (part n (f .next + 1) s)) s f n
+
+-- n octets, which stand beside the field
+abbrev pub octetsField : List ℕ → Field → ℕ → Field
+octetsField s f n = fieldOf 0 s f (2 * n)
+
+abbrev pub octetsIn : List ℕ → Field → ℕ → List ℕ
+octetsIn s f n = octetsOf (part (2 * n) (f .next + 1) s)
+
+-- nothing bad, and nothing left
+abbrev pub ends : List ℕ → Field → Bool
+ends s f = not (f .«is_bad») && eqb (f .next) (length s)
+
+-- how many octets the rest of a line behind a space can write
+abbrev pub left : List ℕ → ℕ → ℕ
+left s at = (length s - at - 1) / 2
+
+-- the last field: an even number of digits, and no more octets than there is room for
+abbrev pub lastField : List ℕ → Field → ℕ → Count
+lastField s f room =
+    cond (leb (left s (f .next)) room && ends s (octetsField s f (left s (f .next))))
+    (record { count = left s (f .next); «is_bad» = false })
+    (record { count = 0; «is_bad» = true })

@@ -1,0 +1,23 @@
+// Output gathered in memory and written in large blocks.
+use libc::STDOUT_FILENO;
+ghost use Prim.Native.Nat.{_≤_};
+ghost use lib.ListN.{length};
+
+// The first n octets written to standard output.
+pub fn write(out: &[u8], n: usize)
+    requires { ⌜ n ≤ length (now out) ⌝ }
+{
+    io::write_all(STDOUT_FILENO, &out[..n]);
+}
+
+// Octets that wait written out where they are more than some number; how many still wait.
+pub fn flush(out: &[u8], waiting: usize, most: usize) -> usize
+    requires { ⌜ waiting ≤ length (now out) ⌝ }
+    ensures { λ r. ⌜ r ≤ waiting ⌝ }
+{
+    if most < waiting {
+        write(out, waiting);
+        return 0;
+    }
+    waiting
+}

@@ -1,0 +1,317 @@
+// Listeners and sessions as 1280 octets that a host lends: sixteen listeners of 48, then sixteen sessions of 32.
+use address::SenderRange;
+use session::Listener;
+use session::Session;
+use session::SessionState;
+use session::Tables;
+use timing::Timing;
+ghost use mathlib.Core.Path.{_≡_};
+ghost use mathlib.Core.List.{[], _∷_};
+ghost use mathlib.Core.Bool.{cond, not};
+ghost use lib.Dec.{eqb};
+ghost use Prim.Native.Nat.{_+_, _*_, _≤_};
+ghost use lib.ListN.{length};
+ghost use Rattle.octets.specs.Octets.{little, littleOf, part, put};
+ghost use Rattle.packed.specs.Packed.{listenerOf, stateOf, sessionOf, listenersOf, sessionsOf, tablesOf, listenerOctets, stateNumber, timingOf, sessionOctets, joined, tablesOctets};
+
+// The 32 octets of s at k.
+pub fn thirty_two(s: &[u8], k: usize) -> [u8; 32]
+    requires { ⌜ k + 32 ≤ length (now s) ⌝ }
+    ensures { λ r. ⌜ r ≡ part 32 k (now (s .entry)) ⌝ }
+{
+    let mut a = [0u8; 32];
+    let e = k + 32;
+    octets::copy_into(&mut a, 0, &s[k..e]);
+    a
+}
+
+fn join8(a: u8, b: u8, c: u8, d: u8, e: u8, f: u8, g: u8, h: u8) -> u64
+    ensures { λ r. ⌜ r ≡ little (a ∷ b ∷ c ∷ d ∷ e ∷ f ∷ g ∷ h ∷ []) ⌝ }
+{
+    (a as u64)
+        + (b as u64) * 256
+        + (c as u64) * 65536
+        + (d as u64) * 16777216
+        + (e as u64) * 4294967296
+        + (f as u64) * 1099511627776
+        + (g as u64) * 281474976710656
+        + (h as u64) * 72057594037927936
+}
+
+// The number in the eight octets of s at k, least significant first.
+fn little8(s: &[u8], k: usize) -> u64
+    requires { ⌜ k + 8 ≤ length (now s) ⌝ }
+    ensures { λ r. ⌜ r ≡ little (part 8 k (now (s .entry))) ⌝ }
+{
+    join8(
+        s[k],
+        s[k + 1],
+        s[k + 2],
+        s[k + 3],
+        s[k + 4],
+        s[k + 5],
+        s[k + 6],
+        s[k + 7],
+    )
+}
+
+// x written in eight octets at k, least significant first.
+fn put_little8(target: &mut [u8], k: usize, x: u64)
+    requires { ⌜ k + 8 ≤ length (now target) ⌝ }
+    ensures { λ _. ⌜ now (target .exit) ≡ put k (littleOf 8 x) (now (target .entry)) ⌝ }
+{
+    let x1 = x / 256;
+    let x2 = x1 / 256;
+    let x3 = x2 / 256;
+    let x4 = x3 / 256;
+    let x5 = x4 / 256;
+    let x6 = x5 / 256;
+    let x7 = x6 / 256;
+    target[k] = (x % 256) as u8;
+    target[k + 1] = (x1 % 256) as u8;
+    target[k + 2] = (x2 % 256) as u8;
+    target[k + 3] = (x3 % 256) as u8;
+    target[k + 4] = (x4 % 256) as u8;
+    target[k + 5] = (x5 % 256) as u8;
+    target[k + 6] = (x6 % 256) as u8;
+    target[k + 7] = (x7 % 256) as u8;
+}
+
+fn is_used(n: u8) -> bool
+    ensures { λ r. ⌜ r ≡ not (eqb n 0) ⌝ }
+{
+    n != 0
+}
+
+// The listener in 48 octets.
+fn unpack_listener(s: &[u8]) -> Listener
+    requires { ⌜ length (now s) ≡ 48 ⌝ }
+    ensures { λ r. ⌜ r ≡ listenerOf (now (s .entry)) ⌝ }
+{
+    let used = is_used(s[0]);
+    let com_id = octets::little4(s, 4);
+    let start = octets::little4(s, 8);
+    let end = octets::little4(s, 12);
+    let uri = thirty_two(s, 16);
+    Listener {
+        used: used,
+        com_id: com_id,
+        senders: SenderRange {
+            start: start,
+            end: end,
+        },
+        uri: uri,
+    }
+}
+
+// The state of a number, any other than 1 to 4 being free.
+fn state_of(n: u8, t: Timing) -> SessionState
+    ensures { λ r. ⌜ r ≡ stateOf n t ⌝ }
+{
+    if n == 1 {
+        return SessionState::WaitingForReply(t);
+    }
+    if n == 2 {
+        return SessionState::OwingConfirm(t);
+    }
+    if n == 3 {
+        return SessionState::WithUser(t);
+    }
+    if n == 4 {
+        return SessionState::WaitingForConfirm(t);
+    }
+    SessionState::Free
+}
+
+// The session in 32 octets.
+pub fn unpack_session(s: &[u8]) -> Session
+    requires { ⌜ length (now s) ≡ 32 ⌝ }
+    ensures { λ r. ⌜ r ≡ sessionOf (now (s .entry)) ⌝ }
+{
+    let timeout = octets::little4(s, 4);
+    let start = little8(s, 8);
+    let id = octets::sixteen(s, 16);
+    let t = Timing {
+        start: start,
+        timeout: timeout,
+    };
+    Session {
+        id: id,
+        state: state_of(s[0], t),
+    }
+}
+
+// Sixteen listeners.
+fn unpack_listeners(s: &[u8]) -> [Listener; 16]
+    requires { ⌜ 768 ≤ length (now s) ⌝ }
+    ensures { λ r. ⌜ r ≡ listenersOf (now (s .entry)) ⌝ }
+{
+    let none = session::no_listener();
+    let mut ls = [none; 16];
+    let mut i: usize = 0;
+    while i < 16 {
+        let a = i * 48;
+        let e = a + 48;
+        ls[i] = unpack_listener(&s[a..e]);
+        i += 1;
+    }
+    ls
+}
+
+// Sixteen sessions.
+fn unpack_sessions(s: &[u8]) -> [Session; 16]
+    requires { ⌜ 512 ≤ length (now s) ⌝ }
+    ensures { λ r. ⌜ r ≡ sessionsOf (now (s .entry)) ⌝ }
+{
+    let none = session::no_session();
+    let mut xs = [none; 16];
+    let mut i: usize = 0;
+    while i < 16 {
+        let a = i * 32;
+        let e = a + 32;
+        xs[i] = unpack_session(&s[a..e]);
+        i += 1;
+    }
+    xs
+}
+
+fn unpack_all(s: &[u8]) -> Tables
+    requires { ⌜ length (now s) ≡ 1280 ⌝ }
+    ensures { λ r. ⌜ r ≡ tablesOf (now (s .entry)) ⌝ }
+{
+    let ls = unpack_listeners(s);
+    let xs = unpack_sessions(&s[768..]);
+    Tables {
+        listeners: ls,
+        sessions: xs,
+    }
+}
+
+// The tables that the octets mean.
+pub fn unpack(octets: &[u8; 1280]) -> Tables
+    ensures { λ r. ⌜ r ≡ tablesOf (now (octets .entry)) ⌝ }
+{
+    unpack_all(octets)
+}
+
+fn used_number(used: bool) -> u32
+    ensures { λ r. ⌜ r ≡ cond used 1 0 ⌝ }
+{
+    if used {
+        return 1;
+    }
+    0
+}
+
+// A listener written over 48 octets; they mean it again.
+fn pack_listener(l: Listener, s: &mut [u8])
+    requires { ⌜ length (now s) ≡ 48 ⌝ }
+    ensures written { λ _. ⌜ now (s .exit) ≡ listenerOctets l ⌝ }
+    ensures long { λ _. ⌜ length (listenerOctets l) ≡ 48 ⌝ }
+    ensures back { λ _. ⌜ listenerOf (listenerOctets l) ≡ l ⌝ }
+{
+    let range = l.senders;
+    let uri = l.uri;
+    octets::put_little4(s, 0, used_number(l.used));
+    octets::put_little4(s, 4, l.com_id);
+    octets::put_little4(s, 8, range.start);
+    octets::put_little4(s, 12, range.end);
+    octets::copy_into(s, 16, &uri);
+}
+
+pub fn state_number(s: SessionState) -> u8
+    ensures { λ r. ⌜ r ≡ stateNumber s ⌝ }
+{
+    match s {
+        SessionState::Free => 0,
+        SessionState::WaitingForReply(_) => 1,
+        SessionState::OwingConfirm(_) => 2,
+        SessionState::WithUser(_) => 3,
+        SessionState::WaitingForConfirm(_) => 4,
+    }
+}
+
+// Start and timeout of a state; zeros where it is free.
+pub fn timing_of(s: SessionState) -> Timing
+    ensures { λ r. ⌜ r ≡ timingOf s ⌝ }
+{
+    match s {
+        SessionState::Free => Timing {
+            start: 0,
+            timeout: 0,
+        },
+        SessionState::WaitingForReply(t) => t,
+        SessionState::OwingConfirm(t) => t,
+        SessionState::WithUser(t) => t,
+        SessionState::WaitingForConfirm(t) => t,
+    }
+}
+
+// A session written over 32 octets; they mean it again.
+fn pack_session(x: Session, s: &mut [u8])
+    requires { ⌜ length (now s) ≡ 32 ⌝ }
+    ensures written { λ _. ⌜ now (s .exit) ≡ sessionOctets x ⌝ }
+    ensures long { λ _. ⌜ length (sessionOctets x) ≡ 32 ⌝ }
+    ensures back { λ _. ⌜ sessionOf (sessionOctets x) ≡ x ⌝ }
+{
+    let id = x.id;
+    let state = x.state;
+    let n = state_number(state);
+    let t = timing_of(state);
+    octets::put_little4(s, 0, n as u32);
+    octets::put_little4(s, 4, t.timeout);
+    put_little8(s, 8, t.start);
+    octets::copy_into(s, 16, &id);
+}
+
+// Sixteen listeners written over 768 octets.
+fn pack_listeners(ls: [Listener; 16], s: &mut [u8])
+    requires { ⌜ length (now s) ≡ 768 ⌝ }
+    ensures written { λ _. ⌜ now (s .exit) ≡ joined listenerOctets ls ⌝ }
+    ensures long { λ _. ⌜ length (joined listenerOctets ls) ≡ 768 ⌝ }
+    ensures back { λ _. ⌜ listenersOf (joined listenerOctets ls) ≡ ls ⌝ }
+{
+    let mut i: usize = 0;
+    while i < 16 {
+        let l = ls[i];
+        let a = i * 48;
+        let e = a + 48;
+        pack_listener(l, &mut s[a..e]);
+        i += 1;
+    }
+}
+
+// Sixteen sessions written over 512 octets.
+fn pack_sessions(xs: [Session; 16], s: &mut [u8])
+    requires { ⌜ length (now s) ≡ 512 ⌝ }
+    ensures written { λ _. ⌜ now (s .exit) ≡ joined sessionOctets xs ⌝ }
+    ensures back { λ _. ⌜ sessionsOf (joined sessionOctets xs) ≡ xs ⌝ }
+{
+    let mut i: usize = 0;
+    while i < 16 {
+        let x = xs[i];
+        let a = i * 32;
+        let e = a + 32;
+        pack_session(x, &mut s[a..e]);
+        i += 1;
+    }
+}
+
+fn pack_all(t: Tables, s: &mut [u8])
+    requires { ⌜ length (now s) ≡ 1280 ⌝ }
+    ensures written { λ _. ⌜ now (s .exit) ≡ tablesOctets t ⌝ }
+    ensures back { λ _. ⌜ tablesOf (tablesOctets t) ≡ t ⌝ }
+{
+    let ls = t.listeners;
+    let xs = t.sessions;
+    pack_listeners(ls, &mut s[..768]);
+    pack_sessions(xs, &mut s[768..]);
+}
+
+// The octets become the tables, and mean them.
+pub fn pack(t: Tables, octets: &mut [u8; 1280])
+    ensures written { λ _. ⌜ now (octets .exit) ≡ tablesOctets t ⌝ }
+    ensures back { λ _. ⌜ tablesOf (tablesOctets t) ≡ t ⌝ }
+{
+    pack_all(t, octets);
+}

@@ -1,0 +1,105 @@
+// What the calls over listeners and sessions answer, in words.
+use line::answer;
+use session::Answer;
+use session::Session;
+use session::SessionState;
+use session::Tables;
+use timing::Timing;
+ghost use Prim.Native.Nat.{_≤_};
+ghost use lib.ListN.{length};
+
+// A request: the listener and the session's slot.
+fn put_opened(out: &mut [u8], at: usize, l: usize, k: usize) -> usize
+    ensures { λ r. ⌜ r ≤ length (now (out .entry)) ⌝ }
+{
+    let p = answer::word_of(out, at, b"opened", l);
+    answer::decimal(out, p, k as u64)
+}
+
+// A telegram of a session: replyStatus, and its slot.
+fn put_taken(out: &mut [u8], at: usize, status: i32, k: usize) -> usize
+    ensures { λ r. ⌜ r ≤ length (now (out .entry)) ⌝ }
+{
+    let p = answer::word(out, at, b"taken");
+    let p = answer::number8(out, p, octets::to_unsigned(status));
+    answer::decimal(out, p, k as u64)
+}
+
+// An answer; of a refusal its number.
+pub fn put_answer(out: &mut [u8], at: usize, a: Answer) -> usize
+    ensures { λ r. ⌜ r ≤ length (now (out .entry)) ⌝ }
+{
+    match a {
+        Answer::Listening(l) => answer::word_of(out, at, b"listener", l),
+        Answer::Freed => answer::word(out, at, b"freed"),
+        Answer::Opened(k) => answer::word_of(out, at, b"session", k),
+        Answer::Notified(l) => answer::word_of(out, at, b"notified", l),
+        Answer::Requested(l, k) => put_opened(out, at, l, k),
+        Answer::Taken(status, k) => put_taken(out, at, status, k),
+        Answer::Replied => answer::word(out, at, b"replied"),
+        Answer::Confirmed => answer::word(out, at, b"confirmed"),
+        Answer::Refused(r, _) => answer::refused(out, at, r),
+    }
+}
+
+// The answer to a telegram; of a refusal its number, and the status for the Me to be sent.
+pub fn put_heard(out: &mut [u8], at: usize, a: Answer) -> usize
+    ensures { λ r. ⌜ r ≤ length (now (out .entry)) ⌝ }
+{
+    let Answer::Refused(r, status) = a else {
+        return put_answer(out, at, a);
+    };
+    let p = answer::refused(out, at, r);
+    answer::number8(out, p, octets::to_unsigned(status))
+}
+
+// Sixteen codes.
+pub fn put_codes(out: &mut [u8], at: usize, codes: [i32; 16]) -> usize
+    ensures { λ r. ⌜ r ≤ length (now (out .entry)) ⌝ }
+{
+    let mut p = answer::word(out, at, b"codes");
+    let mut i: usize = 0;
+    while i < 16 {
+        p = answer::signed(out, p, codes[i]);
+        i += 1;
+    }
+    p
+}
+
+// A session in use: its identifier, and what it waits for since when and how long.
+fn put_waiting(out: &mut [u8], at: usize, id: [u8; 16], state: &[u8], t: Timing) -> usize
+    ensures { λ r. ⌜ r ≤ length (now (out .entry)) ⌝ }
+{
+    let p = answer::word(out, at, b"used");
+    let p = answer::octets(out, p, &id);
+    let p = answer::word(out, p, state);
+    let p = answer::number16(out, p, t.start);
+    answer::number8(out, p, t.timeout)
+}
+
+// A session's record.
+fn put_session(out: &mut [u8], at: usize, x: Session) -> usize
+    ensures { λ r. ⌜ r ≤ length (now (out .entry)) ⌝ }
+{
+    let id = x.id;
+    let state = x.state;
+    match state {
+        SessionState::Free => answer::word(out, at, b"free"),
+        SessionState::WaitingForReply(t) => put_waiting(out, at, id, b"reply", t),
+        SessionState::OwingConfirm(t) => put_waiting(out, at, id, b"owing", t),
+        SessionState::WithUser(t) => put_waiting(out, at, id, b"user", t),
+        SessionState::WaitingForConfirm(t) => put_waiting(out, at, id, b"confirm", t),
+    }
+}
+
+// The record of a session slot; 10 where there is no such slot.
+pub fn put_place(out: &mut [u8], at: usize, t: Tables, k: usize) -> usize
+    ensures { λ r. ⌜ r ≤ length (now (out .entry)) ⌝ }
+{
+    if k < 16 {
+        let xs = t.sessions;
+        let x = xs[k];
+        return put_session(out, at, x);
+    }
+    answer::refused(out, at, refusal::NO_SLOT)
+}

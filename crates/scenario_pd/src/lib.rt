@@ -1,0 +1,326 @@
+// The calls over subscriptions. The program holds forty records and lends the first of them; the store is lent memory.
+pub mod look;
+pub mod show;
+
+use address::SenderRange;
+use arrival::Arrival;
+use lent::Called;
+use line::answer;
+use statistics::Statistics;
+use subscription::Filter;
+use subscription::Subscription;
+use topography::TopoCounts;
+ghost use mathlib.Core.Path.{_≡_};
+ghost use Prim.Native.Nat.{_≤_};
+ghost use lib.ListN.{length, replicate};
+ghost use Rattle.subscription.specs.Record.{freeRecord};
+
+// The records, and how many of them and how many octets of the store each call is lent.
+pub struct Slots {
+    pub records: [Subscription; 40],
+    pub lent: usize,
+    pub octets: usize,
+}
+
+// The records after a call, and the place behind its answer; 0 where the line is none of these.
+pub struct Turned {
+    pub slots: Slots,
+    pub at: usize,
+}
+
+// The same with the statistics.
+pub struct Outcome {
+    pub slots: Slots,
+    pub statistics: Statistics,
+    pub at: usize,
+}
+
+// Before the first call: no subscription; 32 slots are lent, and a store of 1432 octets for each.
+pub fn start() -> Slots
+    ensures { λ r. ⌜ (r .records ≡ replicate 40 freeRecord) × (r .lent ≡ 32) × (r .octets ≡ 45824) ⌝ }
+{
+    let free = subscription::free();
+    Slots {
+        records: [free; 40],
+        lent: 32,
+        octets: 45_824,
+    }
+}
+
+// A line of another form: nothing changes.
+fn bad(t: Slots) -> Turned
+    ensures { λ r. ⌜ r .at ≤ 0 ⌝ }
+{
+    Turned { slots: t, at: 0 }
+}
+
+// What a call leaves and answers.
+fn turn(t: Slots, c: Called, out: &mut [u8], at: usize) -> Turned
+    ensures { λ r. ⌜ r .at ≤ length (now (out .entry)) ⌝ }
+{
+    let records = c.slots;
+    let a = c.answer;
+    let mut after = t;
+    after.records = records;
+    Turned {
+        slots: after,
+        at: show::put_answer(out, at, a),
+    }
+}
+
+fn subscribe(
+    t: Slots,
+    f: Filter,
+    timeout: u32,
+    behaviour: u8,
+    time: u64,
+    store: &mut [u8],
+    out: &mut [u8],
+    at: usize,
+) -> Turned
+    ensures { λ r. ⌜ r .at ≤ length (now (out .entry)) ⌝ }
+{
+    let records = t.records;
+    let n = line::at_most(t.octets, store);
+    let c = lent::subscribe(
+        records,
+        t.lent,
+        &mut store[..n],
+        f,
+        timeout,
+        behaviour,
+        time,
+    );
+    turn(t, c, out, at)
+}
+
+// `sub COMID START END DEST TIMEOUT BEHAVIOUR NOW`
+fn sub(t: Slots, store: &mut [u8], s: &[u8], out: &mut [u8], at: usize) -> Turned
+    ensures { λ r. ⌜ r .at ≤ length (now (out .entry)) ⌝ }
+{
+    let com_id = line::number(s, line::behind(3), 8);
+    let start = line::number(s, com_id, 8);
+    let end = line::number(s, start, 8);
+    let destination = line::number(s, end, 8);
+    let timeout = line::number(s, destination, 8);
+    let behaviour = line::number(s, timeout, 1);
+    let time = line::number(s, behaviour, 16);
+    if line::is_end(s, time) {
+        let senders = SenderRange {
+            start: line::word(start),
+            end: line::word(end),
+        };
+        let f = Filter {
+            com_id: line::word(com_id),
+            senders: senders,
+            destination: line::word(destination),
+        };
+        let b = behaviour.value;
+        if b <= 2 {
+            return subscribe(
+                t,
+                f,
+                line::word(timeout),
+                b as u8,
+                time.value,
+                store,
+                out,
+                at,
+            );
+        }
+    }
+    bad(t)
+}
+
+// `unsub K`
+fn unsub(t: Slots, store: &mut [u8], s: &[u8], out: &mut [u8], at: usize) -> Turned
+    ensures { λ r. ⌜ r .at ≤ length (now (out .entry)) ⌝ }
+{
+    let k = line::number(s, line::behind(5), 8);
+    if line::is_end(s, k) {
+        let records = t.records;
+        let n = line::at_most(t.octets, store);
+        let c = lent::unsubscribe(records, t.lent, &mut store[..n], line::word(k) as usize);
+        return turn(t, c, out, at);
+    }
+    bad(t)
+}
+
+// `check NOW`
+fn check(t: Slots, store: &mut [u8], s: &[u8], out: &mut [u8], at: usize) -> Turned
+    ensures { λ r. ⌜ r .at ≤ length (now (out .entry)) ⌝ }
+{
+    let time = line::number(s, line::behind(5), 16);
+    if line::is_end(s, time) {
+        let records = t.records;
+        let n = line::at_most(t.octets, store);
+        let c = lent::time_check(records, t.lent, &mut store[..n], time.value);
+        return turn(t, c, out, at);
+    }
+    bad(t)
+}
+
+// `lend SLOTS COUNT`
+fn lend(t: Slots, store: &[u8], s: &[u8], out: &mut [u8], at: usize) -> Turned
+    ensures { λ r. ⌜ r .at ≤ length (now (out .entry)) ⌝ }
+{
+    let slots = line::number(s, line::behind(4), 8);
+    let count = line::number(s, slots, 8);
+    let n = line::word(slots) as usize;
+    let m = line::word(count) as usize;
+    if line::is_end(s, count) && n <= 40 && m <= store.len() {
+        let mut after = t;
+        after.lent = n;
+        after.octets = m;
+        return Turned {
+            slots: after,
+            at: answer::word(out, at, b"ok"),
+        };
+    }
+    bad(t)
+}
+
+// A record that says another stored length.
+fn lengthen(t: Slots, k: usize, n: u32, out: &mut [u8], at: usize) -> Turned
+    ensures { λ r. ⌜ r .at ≤ length (now (out .entry)) ⌝ }
+{
+    if k < 32 {
+        let mut records = t.records;
+        let mut r = records[k];
+        if r.used {
+            r.length = n;
+            records[k] = r;
+            let mut after = t;
+            after.records = records;
+            return Turned {
+                slots: after,
+                at: answer::word(out, at, b"ok"),
+            };
+        }
+    }
+    Turned {
+        slots: t,
+        at: answer::refused(out, at, refusal::NO_SLOT),
+    }
+}
+
+// `damage K LENGTH`
+fn damage(t: Slots, s: &[u8], out: &mut [u8], at: usize) -> Turned
+    ensures { λ r. ⌜ r .at ≤ length (now (out .entry)) ⌝ }
+{
+    let k = line::number(s, line::behind(6), 8);
+    let n = line::number(s, k, 8);
+    if line::is_end(s, n) {
+        return lengthen(t, line::word(k) as usize, line::word(n), out, at);
+    }
+    bad(t)
+}
+
+fn receive(
+    t: Slots,
+    statistics: Statistics,
+    a: Arrival,
+    datagram: &[u8],
+    store: &mut [u8],
+    out: &mut [u8],
+    at: usize,
+) -> Outcome
+    ensures { λ r. ⌜ r .at ≤ length (now (out .entry)) ⌝ }
+{
+    let records = t.records;
+    let n = line::at_most(t.octets, store);
+    let d = lent::receive(records, t.lent, &mut store[..n], statistics, a, datagram);
+    let taken = d.slots;
+    let counted = d.statistics;
+    let said = d.answer;
+    let mut after = t;
+    after.records = taken;
+    Outcome {
+        slots: after,
+        statistics: counted,
+        at: show::put_answer(out, at, said),
+    }
+}
+
+// `pd SENDER DEST NOW OCTETS`
+fn pd(
+    t: Slots,
+    statistics: Statistics,
+    local: TopoCounts,
+    store: &mut [u8],
+    s: &[u8],
+    out: &mut [u8],
+    at: usize,
+) -> Outcome
+    ensures { λ r. ⌜ r .at ≤ length (now (out .entry)) ⌝ }
+{
+    let sender = line::number(s, line::behind(2), 8);
+    let destination = line::number(s, sender, 8);
+    let time = line::number(s, destination, 16);
+    let mut data = line::buffer();
+    let d = line::octets(s, time, &mut data);
+    if d.is_bad {
+        return Outcome {
+            slots: t,
+            statistics: statistics,
+            at: 0,
+        };
+    }
+    let n = d.count;
+    let a = Arrival {
+        sender: line::word(sender),
+        destination: line::word(destination),
+        time: time.value,
+        local: local,
+    };
+    receive(t, statistics, a, &data[..n], store, out, at)
+}
+
+// A line of a verb that brings no telegram answered.
+fn other(t: Slots, store: &mut [u8], s: &[u8], out: &mut [u8], at: usize) -> Turned
+    ensures { λ r. ⌜ r .at ≤ length (now (out .entry)) ⌝ }
+{
+    if line::is_verb(s, b"sub") {
+        return sub(t, store, s, out, at);
+    }
+    if line::is_verb(s, b"unsub") {
+        return unsub(t, store, s, out, at);
+    }
+    if line::is_verb(s, b"check") {
+        return check(t, store, s, out, at);
+    }
+    if line::is_verb(s, b"lend") {
+        return lend(t, store, s, out, at);
+    }
+    if line::is_verb(s, b"damage") {
+        return damage(t, s, out, at);
+    }
+    Turned {
+        slots: t,
+        at: look::answer(t, store, s, out, at),
+    }
+}
+
+// A line of one of these verbs answered.
+pub fn answer(
+    t: Slots,
+    statistics: Statistics,
+    local: TopoCounts,
+    store: &mut [u8],
+    s: &[u8],
+    out: &mut [u8],
+    at: usize,
+) -> Outcome
+    ensures { λ r. ⌜ r .at ≤ length (now (out .entry)) ⌝ }
+{
+    if line::is_verb(s, b"pd") {
+        return pd(t, statistics, local, store, s, out, at);
+    }
+    let o = other(t, store, s, out, at);
+    let after = o.slots;
+    Outcome {
+        slots: after,
+        statistics: statistics,
+        at: o.at,
+    }
+}

@@ -1,0 +1,4 @@
+pub mod ByValue
+pub mod Steps
+pub mod PartSweep
+pub mod SweepWalk
