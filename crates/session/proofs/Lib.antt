@@ -14,3 +14,4 @@ pub mod Received
 pub mod AsArrive
 pub mod AsOutcomeOf
 pub mod History
+pub mod Refused

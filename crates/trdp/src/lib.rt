@@ -511,6 +511,33 @@ fn of_told(a: session::Answer) -> Outcome
     }
 }
 
+// A call was refused.
+fn is_refused(a: session::Answer) -> bool
+    ensures { λ r. ⌜ r ≡ sessions.isRefused (session.meaning a) ⌝ }
+{
+    match a {
+        session::Answer::Listening(_) => false,
+        session::Answer::Freed => false,
+        session::Answer::Opened(_) => false,
+        session::Answer::Notified(_) => false,
+        session::Answer::Requested(_, _) => false,
+        session::Answer::Taken(_, _) => false,
+        session::Answer::Replied => false,
+        session::Answer::Confirmed => false,
+        session::Answer::Refused(_, _) => true,
+    }
+}
+
+// The tables after a call, packed; a refused call leaves the octets as they were.
+fn keep(after: Tables, a: session::Answer, tables: &mut [u8; 1280])
+    ensures { λ _. ⌜ sessions.Keeps (session.meaning a) after (now (tables .entry)) (now (tables .exit)) ⌝ }
+{
+    if is_refused(a) {
+        return;
+    }
+    packed::pack(after, tables);
+}
+
 // Adding a listener: its slot, or 11, 20, 12, 13.
 #[no_mangle]
 pub extern "C" fn trdp_listen(
@@ -526,7 +553,7 @@ pub extern "C" fn trdp_listen(
     let x = session::listen(t, com_id, senders, u);
     let after = x.tables;
     let a = x.answer;
-    packed::pack(after, tables);
+    keep(after, a, tables);
     of_told(a)
 }
 
@@ -539,7 +566,7 @@ pub extern "C" fn trdp_unlisten(tables: &mut [u8; 1280], k: usize) -> Outcome
     let x = session::unlisten(t, k);
     let after = x.tables;
     let a = x.answer;
-    packed::pack(after, tables);
+    keep(after, a, tables);
     of_told(a)
 }
 
@@ -558,7 +585,7 @@ pub extern "C" fn trdp_call(
     let x = session::call(t, i, timeout, time);
     let after = x.tables;
     let a = x.answer;
-    packed::pack(after, tables);
+    keep(after, a, tables);
     of_told(a)
 }
 
@@ -577,7 +604,7 @@ pub extern "C" fn trdp_reply(
     let x = session::reply(t, k, msg_type, timeout, time);
     let after = x.tables;
     let a = x.answer;
-    packed::pack(after, tables);
+    keep(after, a, tables);
     of_told(a)
 }
 
@@ -590,7 +617,7 @@ pub extern "C" fn trdp_confirm(tables: &mut [u8; 1280], k: usize) -> Outcome
     let x = session::confirm(t, k);
     let after = x.tables;
     let a = x.answer;
-    packed::pack(after, tables);
+    keep(after, a, tables);
     of_told(a)
 }
 
@@ -678,7 +705,7 @@ fn arrive_md(tables: &mut [u8; 1280], a: Arrival, datagram: &[u8]) -> MdOutcome
     let x = session::arrive(t, a, datagram);
     let after = x.tables;
     let answer = x.answer;
-    packed::pack(after, tables);
+    keep(after, answer, tables);
     of_received(answer)
 }
 

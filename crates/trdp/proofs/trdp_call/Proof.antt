@@ -1,4 +1,4 @@
--- The tables are unpacked, changed by the rules, and packed again.
+-- The tables are unpacked, changed by the rules, and kept.
 use mathlib.Core.Path.{_≡_, subst, _∙_}
 use mathlib.Core.List.{List}
 use Prim.Native.Nat.{ℕ}
@@ -19,8 +19,8 @@ sixteen-requires c κs = search needs
 call-requires : tie.Need-call-requires
 call-requires c κs = search needs
 
-pack-requires : tie.Need-pack-requires
-pack-requires c κs = search needs
+keep-requires : tie.Need-keep-requires
+keep-requires c κs = search needs
 
 of-told-requires : tie.Need-of-told-requires
 of-told-requires c κs = search needs
@@ -30,7 +30,7 @@ returns c =
     let a = c .before .before .before .before .before .before .before .before .before .args in
     let n : length (a .id .now) ≡ 16 = search needs in
     let e = c .before .before .before .before .before .sixteen .ensures ∙ whole 16 (a .id .now) n in
-    follows _ _ _ _ _ (c .before .before .before .before .before .before .before .unpack .ensures) (subst (λ (u : List ℕ). session.Follows (table.calling u (a .timeout) (a .time)) (c .before .before .before .before .before .before .before .unpack .result) (c .before .before .before .before .call .result)) e (c .before .before .before .before .call .ensures)) (c .before .pack .ensures .0) (c .before .pack .ensures .1) _ (c .of-told .ensures)
+    follows _ _ _ _ _ (c .before .before .before .before .before .before .before .unpack .ensures) (subst (λ (u : List ℕ). session.Follows (table.calling u (a .timeout) (a .time)) (c .before .before .before .before .before .before .before .unpack .result) (c .before .before .before .before .call .result)) e (c .before .before .before .before .call .ensures)) (c .before .keep .ensures) _ (c .of-told .ensures)
 
 pub trdp-call-spec : {M : Type 1} → statement M
 trdp-call-spec =
@@ -39,6 +39,6 @@ trdp-call-spec =
     unpack-requires
     sixteen-requires
     call-requires
-    pack-requires
+    keep-requires
     of-told-requires
     returns)

@@ -1,4 +1,4 @@
--- The tables are unpacked, changed by the rules, and packed again.
+-- The tables are unpacked, changed by the rules, and kept.
 use Rattle.trdp.proofs.Messages.{follows}
 use borrow.Author.Needs.{needs}
 use Rattle.trdp.proofs.trdp_unlisten.Statement.{statement}
@@ -10,15 +10,15 @@ unpack-requires c κs = search needs
 unlisten-requires : tie.Need-unlisten-requires
 unlisten-requires c κs = search needs
 
-pack-requires : tie.Need-pack-requires
-pack-requires c κs = search needs
+keep-requires : tie.Need-keep-requires
+keep-requires c κs = search needs
 
 of-told-requires : tie.Need-of-told-requires
 of-told-requires c κs = search needs
 
 returns : tie.Need-returns
-returns c = follows _ _ _ _ _ (c .before .before .before .before .before .unpack .ensures) (c .before .before .before .before .unlisten .ensures) (c .before .pack .ensures .0) (c .before .pack .ensures .1) _ (c .of-told .ensures)
+returns c = follows _ _ _ _ _ (c .before .before .before .before .before .unpack .ensures) (c .before .before .before .before .unlisten .ensures) (c .before .keep .ensures) _ (c .of-told .ensures)
 
 pub trdp-unlisten-spec : {M : Type 1} → statement M
 trdp-unlisten-spec =
-    tie.close (tie.spec unpack-requires unlisten-requires pack-requires of-told-requires returns)
+    tie.close (tie.spec unpack-requires unlisten-requires keep-requires of-told-requires returns)
