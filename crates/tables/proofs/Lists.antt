@@ -9,7 +9,7 @@ use native.Mathlib.Nat.{zero-lt-suc, not-suc-le-zero, le-of-suc-le-suc, suc-ne-z
 use native.Mathlib.Numerals.{add-one}
 use native.Mathlib.Omega.{arith}
 use lib.Dec.{T, eqb, eqb→eq, eqb-refl}
-use lib.ListN.{length, getD, set, List·getD-map, drop, drop-of-length-le}
+use lib.ListN.{length, getD, set, replicate, List·getD-map, drop, drop-of-length-le}
 use lib.Seq.{getD-set-other, drop-cons}
 use Rattle.tables.specs.Lists.{next, count, any, lowest, grant, atSlot}
 use Rattle.tables.specs.Trace.{Outcome}
@@ -54,6 +54,40 @@ module _ {A X Y : Type 0} (f : Y → X) where
   unfolding atSlot
   atSlot-map y u u′ k same ys = rw (List·getD-map f ys k y, same (getD ys k y), set-map f ys k ((u′ (getD ys k y)) .after)) refl
 
+-- the same where the two agree at each slot of this table, and not at every slot that could be
+module _ {X Y : Type 0} (f : Y → X) (d : Y) where
+  module _ (p : X → Bool) (p′ : Y → Bool) where
+    pub any-each : (ys : List Y) → ((j : ℕ) → p (f (getD ys j d)) ≡ p′ (getD ys j d)) → any p (map f ys) ≡ any p′ ys
+    any-each [] same = refl
+    any-each (y ∷ ys) same = ap₂ _||_ (same zero) (any-each ys (λ j. same (suc j)))
+
+    pub lowest-each : (ys : List Y) → ((j : ℕ) → p (f (getD ys j d)) ≡ p′ (getD ys j d)) → lowest p (map f ys) ≡ lowest p′ ys
+    lowest-each [] same = refl
+    lowest-each (y ∷ ys) same = rw (same zero, lowest-each ys (λ j. same (suc j))) refl
+
+  pub map-at : {Z : Type 0} (g : X → Z) (h : Y → Z) (ys : List Y) → ((j : ℕ) → g (f (getD ys j d)) ≡ h (getD ys j d)) → map g (map f ys) ≡ map h ys
+  map-at g h [] same = refl
+  map-at g h (y ∷ ys) same = ap₂ _∷_ (same zero) (map-at g h ys (λ j. same (suc j)))
+
+  pub atSlot-at : {A : Type 0} (u : X → Outcome A X) (u′ : Y → Outcome A Y) (k : ℕ) (ys : List Y)
+      → u (f (getD ys k d)) ≡ record { answer = (u′ (getD ys k d)) .answer; after = f ((u′ (getD ys k d)) .after) }
+      → atSlot (f d) u k (map f ys) ≡ mapped f (atSlot d u′ k ys)
+  unfolding atSlot
+  atSlot-at u u′ k ys same = rw (List·getD-map f ys k d, same, set-map f ys k ((u′ (getD ys k d)) .after)) refl
+
+-- ---- slots that are all alike
+
+pub map-replicate : {X Y : Type 0} (f : Y → X) (n : ℕ) (y : Y) → map f (replicate n y) ≡ replicate n (f y)
+map-replicate f zero y = refl
+map-replicate f (suc n) y = ap (λ l. f y ∷ l) (map-replicate f n y)
+
+pub getD-alike : {X : Type 0} (n j : ℕ) (d : X) → getD (replicate n d) j d ≡ d
+getD-alike zero j d = refl
+getD-alike (suc n) zero d = refl
+getD-alike (suc n) (suc j) d = getD-alike n j d
+
+-- ---- searches
+
 -- the lowest that passes is one of them, and does pass
 pub lowest-is : {X : Type 0} (p : X → Bool) (d : X) (xs : List X) (j : ℕ) → lowest p xs ≡ some j → (j < length xs) × (p (getD xs j d) ≡ true)
 lowest-is p d [] j e = let z : _≡_ {A = ℕ} 0 1 = cc in absurd (omega arith)
@@ -96,9 +130,19 @@ any-false p d (x ∷ xs) k e h = go (p x) refl k (λ i e′. any-false p d xs i 
     go false n zero ih e′ = n
     go false n (suc k) ih e′ = ih k e′
 
-none-pass : {X : Type 0} (p : X → Bool) (d : X) (xs : List X) → ((j : ℕ) → p (getD xs j d) ≡ false) → lowest p xs ≡ none
+pub none-pass : {X : Type 0} (p : X → Bool) (d : X) (xs : List X) → ((j : ℕ) → p (getD xs j d) ≡ false) → lowest p xs ≡ none
 none-pass p d [] h = refl
 none-pass p d (x ∷ xs) h = rw (h zero, none-pass p d xs (λ j. h (suc j))) refl
+
+-- where there is no lowest, none passes
+pub lowest-none : {X : Type 0} (p : X → Bool) (xs : List X) → lowest p xs ≡ none → any p xs ≡ false
+lowest-none p [] e = refl
+lowest-none p (x ∷ xs) e = go (lowest-none p xs) (p x) (lowest p xs) refl e
+  where
+    go : (lowest p xs ≡ none → any p xs ≡ false) → (b : Bool) (o : Option ℕ) → lowest p xs ≡ o → cond b (some zero) (next o) ≡ none → b || any p xs ≡ false
+    go ih true o l q = let z : _≡_ {A = ℕ} 0 1 = cc in absurd (omega arith)
+    go ih false none l q = ih l
+    go ih false (some j) l q = let z : _≡_ {A = ℕ} 0 1 = cc in absurd (omega arith)
 
 -- where only slot k can pass, the lowest that passes is slot k or none
 pub lowest-only : {X : Type 0} (p : X → Bool) (d : X) (xs : List X) (k : ℕ) → k < length xs → ((j : ℕ) → j ≢ k → p (getD xs j d) ≡ false)
