@@ -1,6 +1,7 @@
 pub mod Identifiers
 pub mod Kept
 pub mod Watched
+pub mod Beside
 pub mod Compared
 pub mod Answers
 mod Arrays
