@@ -1,24 +1,34 @@
 -- Demand 3 whole: each table's own theorem, and the law that other tables' calls leave it as it is.
 use mathlib.Core.Path.{_≡_, refl}
 use mathlib.Core.Logic.{_⊎_, inl, inr}
-use Prim.Native.Nat.{ℕ}
+use mathlib.Core.Bool.{Bool, true, false, cond}
+use Prim.Native.Nat.{ℕ, _≤_}
+use lib.ListN.{length, replicate, length-replicate}
 use mathlib.Core.List.{List, [], _∷_}
 use native.Mathlib.Omega.{arith}
-use mathlib.Core.Option.{none, some}
-use Rattle.tables.specs.Trace.{run}
+use mathlib.Core.Option.{none}
+use Rattle.tables.specs.Trace.{Outcome, trace, run}
+use Rattle.tables.proofs.Trace.{same-trace}
 use Rattle.tables.proofs.View.{Stands, same-view, owns, run-part}
-use Rattle.subscription.specs.Slot.{Request, slotOctets}
+use Rattle.subscription.specs.Slot.{slotOctets}
 use Rattle.subscription.specs.Table as pd
 use Rattle.subscription.specs.Watched as slot
-use Rattle.subscription.proofs.Watched as slots
+use Rattle.subscription.specs.Alone as slots
+use Rattle.subscription.proofs.Watched as watched
+use Rattle.subscription.proofs.Lent.{fits-means}
+use Rattle.subscription.proofs.Beside as slot-models
 use Rattle.session.specs.Session.{freeSession}
 use Rattle.session.specs.Table as md
 use Rattle.session.specs.Alone as session
-use Rattle.session.proofs.Watched as sessions
-use Rattle.isolation.specs.Isolation.{Call, process, message, processed, Stack, step, empty, processCall, messageCall, ofProcess, ofMessages, SlotAlone, SessionAlone, Isolation}
+use Rattle.session.specs.Beside as sessions
+use Rattle.session.specs.Beside.{Slots, emptySlots}
+use Rattle.session.specs.declared.Tables.{Tables}
+use Rattle.session.proofs.Watched as heard
+use Rattle.session.proofs.Beside as session-models
+use Rattle.isolation.specs.Isolation.{Call, process, message, processed, Both, both, Stack, step, empty, processCall, messageCall, ofProcess, ofMessages, SlotAlone, SessionAlone, seenBy, sideBySide, Isolation}
 
 process-stands : Stands ofProcess step pd.step
-unfolding step
+unfolding both
 process-stands =
     record {
       part-whole = λ t. refl;
@@ -39,7 +49,7 @@ process-stands =
     others (message c) s e = refl
 
 messages-stand : Stands ofMessages step md.step
-unfolding step
+unfolding both
 messages-stand =
     record {
       part-whole = λ t. refl;
@@ -63,19 +73,19 @@ processed-same : (a b : pd.Answer) → processed a ≡ processed b → a ≡ b
 processed-same a b e = cc
 
 slot-alone : (n octets m i : ℕ) (before after : List Call) → SlotAlone (run step before (empty n octets m i)) after
-unfolding step
+unfolding both
 slot-alone n octets m i before after q time k e =
     let s : Stack = run step before (empty n octets m i) in
     let c = pd.subscribe q time in
     let own = owns ofProcess step pd.step process-stands before in
     let same : s .subscriptions ≡ run pd.step own (pd.emptyTable n octets) = run-part ofProcess step pd.step process-stands before (empty n octets m i) in
     let grants : (pd.step c (s .subscriptions)) .answer ≡ pd.granted k = processed-same ((pd.step c (s .subscriptions)) .answer) (pd.granted k) e in
-    let g : (slot.slotAt k ((pd.step c (s .subscriptions)) .after) ≡ (pd.step c (pd.emptyTable 1 slotOctets)) .after) × slots.Held k q time ((pd.step c (s .subscriptions)) .after) =
-    rw same (slots.granted-held n octets own q time k (rw same at grants)) in
-    (g .0, rw (g .0) at (same-view ofProcess step (slot.slotWatch k (q .filter)) process-stands (slots.Held k q time) (slots.follows k q time) after ((step (process c) s) .after) (g .1)))
+    let g : (slot.slotAt k ((pd.step c (s .subscriptions)) .after) ≡ (pd.step c (pd.emptyTable 1 slotOctets)) .after) × watched.Held k q time ((pd.step c (s .subscriptions)) .after) =
+    rw same (watched.granted-held n octets own q time k (rw same at grants)) in
+    (g .0, rw (g .0) at (same-view ofProcess step (slot.slotWatch k (q .filter)) process-stands (watched.Held k q time) (watched.follows k q time) after ((step (process c) s) .after) (g .1)))
 
 session-alone : (n octets m i : ℕ) (before after : List Call) → SessionAlone (run step before (empty n octets m i)) after
-unfolding step
+unfolding both
 session-alone n octets m i before after c k e =
     let s : Stack = run step before (empty n octets m i) in
     let id = session.identifier c in
@@ -83,9 +93,54 @@ session-alone n octets m i before after c k e =
     let same : s .messages ≡ run md.step own (md.emptyTables m i) = run-part ofMessages step md.step messages-stand before (empty n octets m i) in
     let alone = md.step c (record { listeners = s .messages .listeners; sessions = freeSession ∷ [] }) in
     let g : ((md.step c (s .messages)) .answer ≡ session.numbered k (alone .answer))
-    × (session.slotAt k ((md.step c (s .messages)) .after) ≡ session.slotAt 0 (alone .after)) × sessions.Held k id ((md.step c (s .messages)) .after) =
-    rw same (sessions.opened-held m i own c k (rw same at e)) in
-    (g .0, g .1, rw (g .1) at (same-view ofMessages step (session.sessionWatch k id) messages-stand (sessions.Held k id) (sessions.follows k id) after ((step (message c) s) .after) (g .2)))
+    × (session.slotAt k ((md.step c (s .messages)) .after) ≡ session.slotAt 0 (alone .after)) × heard.Held k id ((md.step c (s .messages)) .after) =
+    rw same (heard.opened-held m i own c k (rw same at e)) in
+    (g .0, g .1, rw (g .1) at (same-view ofMessages step (session.sessionWatch k id) messages-stand (heard.Held k id) (heard.follows k id) after ((step (message c) s) .after) (g .2)))
+
+-- ---- side by side
+
+-- two models beside one another agree with two tables where each agrees with its own
+module _ {S T : Type 0} (f : pd.Call → S → Outcome pd.Answer S) (g : md.Call → T → Outcome md.Answer T) (seenS : S → pd.Table) (seenT : T → Tables) (GoodS : S → Type 0) (GoodT : T → Type 0)
+    (keepsS : (c : pd.Call) (s : S) → GoodS s → GoodS ((f c s) .after)) (keepsT : (c : md.Call) (t : T) → GoodT t → GoodT ((g c t) .after))
+    (agreesS : (c : pd.Call) (s : S) → GoodS s → pd.step c (seenS s) ≡ record { answer = (f c s) .answer; after = seenS ((f c s) .after) })
+    (agreesT : (c : md.Call) (t : T) → GoodT t → md.step c (seenT t) ≡ record { answer = (g c t) .answer; after = seenT ((g c t) .after) })
+  where
+    abbrev Good : Both S T → Type 0
+    Good b = GoodS (b .subscriptions) × GoodT (b .messages)
+
+    keeps : (c : Call) (b : Both S T) → Good b → Good ((both f g c b) .after)
+    unfolding both
+    keeps (process c) b h = (keepsS c (b .subscriptions) (h .0), h .1)
+    keeps (message c) b h = (h .0, keepsT c (b .messages) (h .1))
+
+    agrees : (c : Call) (b : Both S T) → Good b → step c (seenBy seenS seenT b) ≡ record { answer = (both f g c b) .answer; after = seenBy seenS seenT ((both f g c b) .after) }
+    unfolding both
+    agrees (process c) b h = rw (agreesS c (b .subscriptions) (h .0)) refl
+    agrees (message c) b h = rw (agreesT c (b .messages) (h .1)) refl
+
+    same-both : (calls : List Call) (b : Both S T) → Good b → trace step (λ s. s) calls (seenBy seenS seenT b) ≡ trace (both f g) (seenBy seenS seenT) calls b
+    same-both calls b h = same-trace step (both f g) (seenBy seenS seenT) Good keeps agrees calls b h
+
+side-by-side : (n octets m i : ℕ) (calls : List Call) → trace step (λ s. s) calls (empty n octets m i) ≡ sideBySide n octets m i calls
+side-by-side n octets m i calls = go (pd.fits n octets) refl
+  where
+    messages : Slots
+    messages = emptySlots m i
+
+    go : (b : Bool) → pd.fits n octets ≡ b
+        → trace step (λ s. s) calls (empty n octets m i)
+        ≡ cond b
+        (trace (both slots.beside sessions.beside) (seenBy slots.joined sessions.joined) calls (record { subscriptions = replicate n slots.free; messages = messages }))
+        (trace (both slots.refusing sessions.beside) (seenBy (λ t. t) sessions.joined) calls (record { subscriptions = pd.emptyTable n octets; messages = messages }))
+    go true e =
+        let fit = fits-means n octets e in
+        rw (fit .1, ← slot-models.joined-empty n, ← session-models.joined-empty m i)
+        (same-both slots.beside sessions.beside slots.joined sessions.joined (λ ss. length ss ≤ 32) (λ s. session-models.Good (s .slots)) slot-models.keeps session-models.keeps slot-models.agrees session-models.agrees
+        calls (record { subscriptions = replicate n slots.free; messages = messages }) (rw (length-replicate n slots.free) (fit .0), session-models.good-empty i))
+    go false e =
+        rw (← session-models.joined-empty m i)
+        (same-both slots.refusing sessions.beside (λ t. t) sessions.joined slot-models.Refused (λ s. session-models.Good (s .slots)) (λ c t h. h) session-models.keeps slot-models.refuses session-models.agrees
+        calls (record { subscriptions = pd.emptyTable n octets; messages = messages }) (simp length-replicate e, session-models.good-empty i))
 
 pub isolation : Isolation
-isolation n octets m i before after = (slot-alone n octets m i before after, session-alone n octets m i before after)
+isolation = record { side-by-side = side-by-side; slot-alone = slot-alone; session-alone = session-alone }

@@ -1,17 +1,21 @@
 -- Demand 3 whole: one claim about every list of calls, of process data and of message data in any order.
 use mathlib.Core.Path.{_≡_}
 use Prim.Native.Nat.{ℕ}
+use mathlib.Core.Bool.{cond}
 use mathlib.Core.List.{List, [], _∷_}
 use mathlib.Core.Option.{Option, none, some}
-use Rattle.tables.specs.Trace.{Outcome, run}
+use lib.ListN.{replicate}
+use Rattle.tables.specs.Trace.{Outcome, trace, run}
 use Rattle.tables.specs.Watch.{watched, told, watchedAlone}
 use Rattle.tables.specs.View.{View, viewed}
 use Rattle.subscription.specs.Slot.{Request, slotOctets}
 use Rattle.subscription.specs.Table as pd
+use Rattle.subscription.specs.Alone as slots
 use Rattle.subscription.specs.Watched as slot
 use Rattle.session.specs.Session.{freeSession}
 use Rattle.session.specs.Table as md
 use Rattle.session.specs.Alone as session
+use Rattle.session.specs.Beside as sessions
 use Rattle.session.specs.declared.Tables.{Tables}
 
 -- a call of process data, or one of message data
@@ -23,19 +27,26 @@ pub data Answer : Type 0 where
   processed : pd.Answer → Answer
   messaged : md.Answer → Answer
 
--- the subscription table with its store, and the listeners and sessions
-pub record Stack : Type 0 where
-  pub subscriptions : pd.Table
-  pub messages : Tables
+-- the state of process data beside that of message data
+pub record Both (S T : Type 0) : Type 0 where
+  pub subscriptions : S
+  pub messages : T
 
--- each call by its own table's rules; the other tables stay
-unfoldable pub step : Call → Stack → Outcome Answer Stack
-step (process c) s =
-    let o = pd.step c (s .subscriptions) in
+-- each call by its own rules; the other state stays
+unfoldable pub both : {S T : Type 0} → (pd.Call → S → Outcome pd.Answer S) → (md.Call → T → Outcome md.Answer T) → Call → Both S T → Outcome Answer (Both S T)
+both f g (process c) s =
+    let o = f c (s .subscriptions) in
     record { answer = processed (o .answer); after = record { subscriptions = o .after; messages = s .messages } }
-step (message c) s =
-    let o = md.step c (s .messages) in
+both f g (message c) s =
+    let o = g c (s .messages) in
     record { answer = messaged (o .answer); after = record { subscriptions = s .subscriptions; messages = o .after } }
+
+-- the subscription table with its store, and the listeners and sessions
+abbrev pub Stack : Type 0
+Stack = Both pd.Table Tables
+
+abbrev pub step : Call → Stack → Outcome Answer Stack
+step = both pd.step md.step
 
 -- n slots and a store of so many octets, m listeners and i sessions, all free
 abbrev pub empty : ℕ → ℕ → ℕ → ℕ → Stack
@@ -106,8 +117,21 @@ SessionAlone s after =
     × (watched w after ((step (message c) s) .after)
     ≡ watchedAlone w (told w after ((step (message c) s) .after)) (ofMessages .whole (session.slotAt 0 (alone .after))))
 
--- Demand 3, over every number of slots, store octets, listeners and sessions, and every list of calls before and after a grant or an opening
-abbrev pub Isolation : Type 0
-Isolation =
-    (n octets m i : ℕ) (before after : List Call)
-    → SlotAlone (run step before (empty n octets m i)) after × SessionAlone (run step before (empty n octets m i)) after
+-- ---- the model made of slots and sessions alone
+
+abbrev pub seenBy : {S T : Type 0} → (S → pd.Table) → (T → Tables) → Both S T → Stack
+seenBy f g s = record { subscriptions = f (s .subscriptions); messages = g (s .messages) }
+
+-- the answers and all tables after each call that slots and sessions alone give, side by side; where sizes are refused, so is every call of process data
+abbrev pub sideBySide : ℕ → ℕ → ℕ → ℕ → List Call → List (Outcome Answer Stack)
+sideBySide n octets m i calls =
+    cond (pd.fits n octets)
+    (trace (both slots.beside sessions.beside) (seenBy slots.joined sessions.joined) calls (record { subscriptions = replicate n slots.free; messages = sessions.emptySlots m i }))
+    (trace (both slots.refusing sessions.beside) (seenBy (λ t. t) sessions.joined) calls (record { subscriptions = pd.emptyTable n octets; messages = sessions.emptySlots m i }))
+
+-- Demand 3, over every number of slots, store octets, listeners and sessions, and every list of calls: each answer, grant, opening, slot number, record and octet
+-- is that of slots and sessions alone; and whatever came before, from its grant or its opening on each slot and each session is the slot or the session alone
+pub record Isolation : Type 0 where
+  pub side-by-side : (n octets m i : ℕ) (calls : List Call) → trace step (λ s. s) calls (empty n octets m i) ≡ sideBySide n octets m i calls
+  pub slot-alone : (n octets m i : ℕ) (before after : List Call) → SlotAlone (run step before (empty n octets m i)) after
+  pub session-alone : (n octets m i : ℕ) (before after : List Call) → SessionAlone (run step before (empty n octets m i)) after
