@@ -30,6 +30,7 @@ use Rattle.session.proofs.Kept.{Kept, has-busy, kept-ended, kept-owing,
 
 -- ---- the types that a session takes
 
+-- the states in which a session takes it and the session after it; the table's rule and the model's
 record Takes (kind : Kind) (h : Heard) : Type 0 where
   in′ : SessionState → Bool
   to : Session → Session
@@ -37,6 +38,7 @@ record Takes (kind : Kind) (h : Heard) : Type 0 where
   table : (o : Option ℕ) (xs : List Session) → arriving kind o h xs ≡ taking in′ to h xs
   model : (o : Option ℕ) (f : Fed) (ss : List Slot) → heardBeside kind o h f ss ≡ takingBeside (lowest (isOf (h .id)) ss) f ss
 
+-- an Mn, an Mr, or one that a session takes
 data Sorted (kind : Kind) (h : Heard) : Type 0 where
   notice : kind ≡ mn → Sorted kind h
   request : kind ≡ mr → Sorted kind h
@@ -69,6 +71,7 @@ module _ (a : Arrival) (d : List ℕ) (h : Heard) (e : judged a d ≡ passed h) 
       → step (telegram a d) (single x) ≡ withSessions [] (takenAt (cond b (some 0) none) (t .to) (h .status) (x ∷ []))
   alone-takes t x b c = rw (arrives (single x), t .table (hearing h []) (x ∷ []), c) refl
 
+-- one session is left, free or with its identifier
 abbrev Stays : Fed → Session → Type 0
 Stays f x = ((step (own f) (single x)) .after ≡ single (next f x)) × Kept x (next f x)
 
@@ -79,7 +82,6 @@ kept-same : (x : Session) → Kept x x
 unfolding Kept
 kept-same x = inr (refl, refl)
 
--- it stays the only one, free or with its identifier
 one : (f : Fed) (x : Session) → Stays f x
 unfolding step atSlot
 one (arrived a d) x = go (judged a d) refl
@@ -111,6 +113,7 @@ one (checked time) x = stays (checked time) x (expired time x) refl (kept-expire
 stepped-only : (f : Fed) (x : Session) (t : Tables) → t ≡ single x → (step (own f) t) .after ≡ single (getD ((step (own f) t) .after .sessions) 0 freeSession)
 stepped-only f x t e = rw e ((one f x) .0)
 
+-- the session alone is one record
 only-is : (s : Slot) → only s ≡ single (sessionOf s)
 unfolding alone
 only-is free = refl
@@ -179,72 +182,14 @@ feeding f (held id state fs) w = go (isFree (sessionOf z .state)) refl
     go true b = (well-free, sym (kept-freed x (sessionOf z) (w .vacant-is) b kept) ∙ held-is id state f fs)
     go false b = (record { vacant-is = b; of-is = λ i. kept-has i x (sessionOf z) b kept ∙ w .of-is i }, held-is id state f fs)
 
--- ---- no two slots have one identifier
-
+-- no identifier is that of both
 abbrev pub Apart : Slot → Slot → Type 0
 Apart s t = (i : List ℕ) → isOf i s ≡ true → isOf i t ≡ false
 
-apart-sym : (s t : Slot) → Apart s t → Apart t s
-apart-sym s t n i e = go (isOf i s) refl
-  where
-    go : (b : Bool) → isOf i s ≡ b → b ≡ false
-    go true b = absurd (false≢true (sym (n i b) ∙ e))
-    go false b = refl
-
-fed-of : (f : Fed) (i : List ℕ) (s : Slot) → isOf i s ≡ false → isOf i (feed f s) ≡ false
-fed-of f i free e = e
-fed-of f i (held id state fs) e = go (isFree (sessionOf (held id state (f ∷ fs)) .state))
-  where
-    go : (b : Bool) → isOf i (cond b free (held id state (f ∷ fs))) ≡ false
-    go true = refl
-    go false = e
-
-apart-fed : (f : Fed) (s t : Slot) → Apart s t → Apart s (feed f t)
-apart-fed f s t n i e = fed-of f i t (n i e)
-
+-- each slot is as its opening says, and no two have one identifier
 pub record Good (ss : List Slot) : Type 0 where
   well : (j : ℕ) → Well (getD ss j free)
   apart : (j k : ℕ) → j ≢ k → Apart (getD ss j free) (getD ss k free)
-
-good-set : (ss : List Slot) (k : ℕ) (y : Slot) → Good ss → Well y → ((j : ℕ) → j ≢ k → Apart (getD ss j free) y) → Good (set ss k y)
-good-set ss k y g w n = record { well = λ j. fact-set Well free ss k j y (g .well j) w; apart = λ j l m. go j l m (eqb j k) refl }
-  where
-    go : (j l : ℕ) → j ≢ l → (b : Bool) → eqb j k ≡ b → Apart (getD (set ss k y) j free) (getD (set ss k y) l free)
-    go j l m true b =
-        let lk : l ≢ k = λ p. m (eqb-same j k b ∙ sym p) in
-        rw (getD-set-other ss k l y free lk) (fact-set (λ s. Apart s (getD ss l free)) free ss k j y (g .apart j l m) (apart-sym (getD ss l free) y (n l lk)))
-    go j l m false b =
-        let jk : j ≢ k = λ p. eqb-other j k b (sym p) in
-        rw (getD-set-other ss k j y free jk) (fact-set (λ s. Apart (getD ss j free) s) free ss k l y (g .apart j l m) (n j jk))
-
-good-fed : (f : Fed) (k : ℕ) (ss : List Slot) → Good ss → Good (set ss k (feed f (getD ss k free)))
-good-fed f k ss g =
-    good-set ss k (feed f (getD ss k free)) g ((feeding f (getD ss k free) (g .well k)) .0) (λ j m. apart-fed f (getD ss j free) (getD ss k free) (g .apart j k m))
-
-good-all : (f : Fed) (ss : List Slot) → Good ss → Good (map (feed f) ss)
-good-all f ss g =
-    record {
-      well = λ j. rw (List·getD-map (feed f) ss j free) ((feeding f (getD ss j free) (g .well j)) .0);
-      apart = λ j k m. rw (List·getD-map (feed f) ss j free, List·getD-map (feed f) ss k free) (both (getD ss j free) (getD ss k free) (g .apart j k m));
-    }
-  where
-    both : (s t : Slot) → Apart s t → Apart (feed f s) (feed f t)
-    both s t n = apart-fed f (feed f s) t (apart-sym t (feed f s) (apart-fed f t s (apart-sym s t n)))
-
-good-opening : (given : ℕ → Answer) (full : Answer) (id : List ℕ) (state : SessionState) (ss : List Slot) → isFree state ≡ false → Good ss
-    → Good (openingBeside given full id state ss .after)
-unfolding grant
-good-opening given full id state ss b g = go (any (isOf id) ss) refl (lowest vacant ss)
-  where
-    go : (c : Bool) → any (isOf id) ss ≡ c → (o : Option ℕ)
-        → Good ((grant (cond c (some (refusedPlain sessionInUse)) none) o full given (held id state []) ss) .after)
-    go true e o = g
-    go false e none = g
-    go false e (some k) = good-set ss k (held id state []) g (well-new id state b) (λ j m i q. new j i q (equal id i) refl)
-      where
-        new : (j : ℕ) (i : List ℕ) → isOf i (getD ss j free) ≡ true → (c : Bool) → equal id i ≡ c → c ≡ false
-        new j i q true c = absurd (false≢true (sym (any-false (isOf id) free ss j e refl) ∙ ap (λ v. isOf v (getD ss j free)) (equal-same id i c) ∙ q))
-        new j i q false c = refl
 
 -- ---- call by call
 
@@ -365,7 +310,65 @@ agrees (reply k type timeout time) s g =
 agrees (confirm k) s g = ap (withSessions (s .listeners)) (confirm-names k (map sessionOf (s .slots)) ∙ named-is confirming k (s .slots) g)
 agrees (timeCheck time) s g = ap (withSessions (s .listeners)) (checked-is time (s .slots) g)
 
--- ---- the whole list
+-- ---- what a call keeps
+
+apart-sym : (s t : Slot) → Apart s t → Apart t s
+apart-sym s t n i e = go (isOf i s) refl
+  where
+    go : (b : Bool) → isOf i s ≡ b → b ≡ false
+    go true b = absurd (false≢true (sym (n i b) ∙ e))
+    go false b = refl
+
+fed-of : (f : Fed) (i : List ℕ) (s : Slot) → isOf i s ≡ false → isOf i (feed f s) ≡ false
+fed-of f i free e = e
+fed-of f i (held id state fs) e = go (isFree (sessionOf (held id state (f ∷ fs)) .state))
+  where
+    go : (b : Bool) → isOf i (cond b free (held id state (f ∷ fs))) ≡ false
+    go true = refl
+    go false = e
+
+apart-fed : (f : Fed) (s t : Slot) → Apart s t → Apart s (feed f t)
+apart-fed f s t n i e = fed-of f i t (n i e)
+
+good-set : (ss : List Slot) (k : ℕ) (y : Slot) → Good ss → Well y → ((j : ℕ) → j ≢ k → Apart (getD ss j free) y) → Good (set ss k y)
+good-set ss k y g w n = record { well = λ j. fact-set Well free ss k j y (g .well j) w; apart = λ j l m. go j l m (eqb j k) refl }
+  where
+    go : (j l : ℕ) → j ≢ l → (b : Bool) → eqb j k ≡ b → Apart (getD (set ss k y) j free) (getD (set ss k y) l free)
+    go j l m true b =
+        let lk : l ≢ k = λ p. m (eqb-same j k b ∙ sym p) in
+        rw (getD-set-other ss k l y free lk) (fact-set (λ s. Apart s (getD ss l free)) free ss k j y (g .apart j l m) (apart-sym (getD ss l free) y (n l lk)))
+    go j l m false b =
+        let jk : j ≢ k = λ p. eqb-other j k b (sym p) in
+        rw (getD-set-other ss k j y free jk) (fact-set (λ s. Apart (getD ss j free) s) free ss k l y (g .apart j l m) (n j jk))
+
+good-fed : (f : Fed) (k : ℕ) (ss : List Slot) → Good ss → Good (set ss k (feed f (getD ss k free)))
+good-fed f k ss g =
+    good-set ss k (feed f (getD ss k free)) g ((feeding f (getD ss k free) (g .well k)) .0) (λ j m. apart-fed f (getD ss j free) (getD ss k free) (g .apart j k m))
+
+good-all : (f : Fed) (ss : List Slot) → Good ss → Good (map (feed f) ss)
+good-all f ss g =
+    record {
+      well = λ j. rw (List·getD-map (feed f) ss j free) ((feeding f (getD ss j free) (g .well j)) .0);
+      apart = λ j k m. rw (List·getD-map (feed f) ss j free, List·getD-map (feed f) ss k free) (both (getD ss j free) (getD ss k free) (g .apart j k m));
+    }
+  where
+    both : (s t : Slot) → Apart s t → Apart (feed f s) (feed f t)
+    both s t n = apart-fed f (feed f s) t (apart-sym t (feed f s) (apart-fed f t s (apart-sym s t n)))
+
+good-opening : (given : ℕ → Answer) (full : Answer) (id : List ℕ) (state : SessionState) (ss : List Slot) → isFree state ≡ false → Good ss
+    → Good (openingBeside given full id state ss .after)
+unfolding grant
+good-opening given full id state ss b g = go (any (isOf id) ss) refl (lowest vacant ss)
+  where
+    go : (c : Bool) → any (isOf id) ss ≡ c → (o : Option ℕ)
+        → Good ((grant (cond c (some (refusedPlain sessionInUse)) none) o full given (held id state []) ss) .after)
+    go true e o = g
+    go false e none = g
+    go false e (some k) = good-set ss k (held id state []) g (well-new id state b) (λ j m i q. new j i q (equal id i) refl)
+      where
+        new : (j : ℕ) (i : List ℕ) → isOf i (getD ss j free) ≡ true → (c : Bool) → equal id i ≡ c → c ≡ false
+        new j i q true c = absurd (false≢true (sym (any-false (isOf id) free ss j e refl) ∙ ap (λ v. isOf v (getD ss j free)) (equal-same id i c) ∙ q))
+        new j i q false c = refl
 
 good-taking : (o : Option ℕ) (f : Fed) (ss : List Slot) → Good ss → Good (takingBeside o f ss .after)
 unfolding atSlot
@@ -398,6 +401,8 @@ keeps (telegram a d) s g = go (judged a d)
 keeps (reply k type timeout time) s g = good-fed (replying type timeout time) k (s .slots) g
 keeps (confirm k) s g = good-fed confirming k (s .slots) g
 keeps (timeCheck time) s g = good-all (checked time) (s .slots) g
+
+-- ---- the whole list
 
 pub good-empty : (n : ℕ) → Good (replicate n free)
 good-empty n = record { well = λ j. rw (getD-alike n j free) well-free; apart = λ j k m i e. rw (getD-alike n k free) refl }
