@@ -1,7 +1,7 @@
--- Demand 3 whole: each table's own theorem, and the law that other tables' calls leave it as it is.
+-- Demand 3 whole: each table's own theorem, and the laws that other tables' calls leave it as it is and that two models side by side agree where each does.
 use mathlib.Core.Path.{_≡_, refl}
 use mathlib.Core.Logic.{_⊎_, inl, inr}
-use mathlib.Core.Bool.{Bool, true, false, cond}
+use mathlib.Core.Bool.{Bool, true, false}
 use Prim.Native.Nat.{ℕ, _≤_}
 use lib.ListN.{length, replicate, length-replicate}
 use mathlib.Core.List.{List, [], _∷_}
@@ -14,17 +14,17 @@ use Rattle.subscription.specs.Slot.{slotOctets}
 use Rattle.subscription.specs.Table as pd
 use Rattle.subscription.specs.Watched as slot
 use Rattle.subscription.specs.Alone as slots
-use Rattle.subscription.proofs.Watched as watched
+use Rattle.subscription.proofs.Watched as slot-watch
 use Rattle.subscription.proofs.Lent.{fits-means}
-use Rattle.subscription.proofs.Beside as slot-models
+use Rattle.subscription.proofs.Beside as slots-beside
 use Rattle.session.specs.Session.{freeSession}
 use Rattle.session.specs.Table as md
 use Rattle.session.specs.Alone as session
 use Rattle.session.specs.Beside as sessions
-use Rattle.session.specs.Beside.{Slots, emptySlots}
+use Rattle.session.specs.Beside.{Slots}
 use Rattle.session.specs.declared.Tables.{Tables}
-use Rattle.session.proofs.Watched as heard
-use Rattle.session.proofs.Beside as session-models
+use Rattle.session.proofs.Watched as session-watch
+use Rattle.session.proofs.Beside as sessions-beside
 use Rattle.isolation.specs.Isolation.{Call, process, message, processed, Both, both, Stack, step, empty, processCall, messageCall, ofProcess, ofMessages, SlotAlone, SessionAlone, seenBy, sideBySide, Isolation}
 
 process-stands : Stands ofProcess step pd.step
@@ -80,9 +80,9 @@ slot-alone n octets m i before after q time k e =
     let own = owns ofProcess step pd.step process-stands before in
     let same : s .subscriptions ≡ run pd.step own (pd.emptyTable n octets) = run-part ofProcess step pd.step process-stands before (empty n octets m i) in
     let grants : (pd.step c (s .subscriptions)) .answer ≡ pd.granted k = processed-same ((pd.step c (s .subscriptions)) .answer) (pd.granted k) e in
-    let g : (slot.slotAt k ((pd.step c (s .subscriptions)) .after) ≡ (pd.step c (pd.emptyTable 1 slotOctets)) .after) × watched.Held k q time ((pd.step c (s .subscriptions)) .after) =
-    rw same (watched.granted-held n octets own q time k (rw same at grants)) in
-    (g .0, rw (g .0) at (same-view ofProcess step (slot.slotWatch k (q .filter)) process-stands (watched.Held k q time) (watched.follows k q time) after ((step (process c) s) .after) (g .1)))
+    let g : (slot.slotAt k ((pd.step c (s .subscriptions)) .after) ≡ (pd.step c (pd.emptyTable 1 slotOctets)) .after) × slot-watch.Held k q time ((pd.step c (s .subscriptions)) .after) =
+    rw same (slot-watch.granted-held n octets own q time k (rw same at grants)) in
+    (g .0, rw (g .0) at (same-view ofProcess step (slot.slotWatch k (q .filter)) process-stands (slot-watch.Held k q time) (slot-watch.follows k q time) after ((step (process c) s) .after) (g .1)))
 
 session-alone : (n octets m i : ℕ) (before after : List Call) → SessionAlone (run step before (empty n octets m i)) after
 unfolding both
@@ -93,9 +93,9 @@ session-alone n octets m i before after c k e =
     let same : s .messages ≡ run md.step own (md.emptyTables m i) = run-part ofMessages step md.step messages-stand before (empty n octets m i) in
     let alone = md.step c (record { listeners = s .messages .listeners; sessions = freeSession ∷ [] }) in
     let g : ((md.step c (s .messages)) .answer ≡ session.numbered k (alone .answer))
-    × (session.slotAt k ((md.step c (s .messages)) .after) ≡ session.slotAt 0 (alone .after)) × heard.Held k id ((md.step c (s .messages)) .after) =
-    rw same (heard.opened-held m i own c k (rw same at e)) in
-    (g .0, g .1, rw (g .1) at (same-view ofMessages step (session.sessionWatch k id) messages-stand (heard.Held k id) (heard.follows k id) after ((step (message c) s) .after) (g .2)))
+    × (session.slotAt k ((md.step c (s .messages)) .after) ≡ session.slotAt 0 (alone .after)) × session-watch.Held k id ((md.step c (s .messages)) .after) =
+    rw same (session-watch.opened-held m i own c k (rw same at e)) in
+    (g .0, g .1, rw (g .1) at (same-view ofMessages step (session.sessionWatch k id) messages-stand (session-watch.Held k id) (session-watch.follows k id) after ((step (message c) s) .after) (g .2)))
 
 -- ---- side by side
 
@@ -124,23 +124,19 @@ module _ {S T : Type 0} (f : pd.Call → S → Outcome pd.Answer S) (g : md.Call
 side-by-side : (n octets m i : ℕ) (calls : List Call) → trace step (λ s. s) calls (empty n octets m i) ≡ sideBySide n octets m i calls
 side-by-side n octets m i calls = go (pd.fits n octets) refl
   where
-    messages : Slots
-    messages = emptySlots m i
+    GoodT : Slots → Type 0
+    GoodT s = sessions-beside.Good (s .slots)
 
-    go : (b : Bool) → pd.fits n octets ≡ b
-        → trace step (λ s. s) calls (empty n octets m i)
-        ≡ cond b
-        (trace (both slots.beside sessions.beside) (seenBy slots.joined sessions.joined) calls (record { subscriptions = replicate n slots.free; messages = messages }))
-        (trace (both slots.refusing sessions.beside) (seenBy (λ t. t) sessions.joined) calls (record { subscriptions = pd.emptyTable n octets; messages = messages }))
+    go : (b : Bool) → pd.fits n octets ≡ b → trace step (λ s. s) calls (empty n octets m i) ≡ sideBySide n octets m i calls
     go true e =
         let fit = fits-means n octets e in
-        rw (fit .1, ← slot-models.joined-empty n, ← session-models.joined-empty m i)
-        (same-both slots.beside sessions.beside slots.joined sessions.joined (λ ss. length ss ≤ 32) (λ s. session-models.Good (s .slots)) slot-models.keeps session-models.keeps slot-models.agrees session-models.agrees
-        calls (record { subscriptions = replicate n slots.free; messages = messages }) (rw (length-replicate n slots.free) (fit .0), session-models.good-empty i))
+        rw (e, fit .1, ← slots-beside.joined-empty n, ← sessions-beside.joined-empty m i)
+        (same-both slots.beside sessions.beside slots.joined sessions.joined (λ ss. length ss ≤ 32) GoodT slots-beside.keeps sessions-beside.keeps slots-beside.agrees sessions-beside.agrees calls
+        (record { subscriptions = replicate n slots.free; messages = sessions.emptySlots m i }) (rw (length-replicate n slots.free) (fit .0), sessions-beside.good-empty i))
     go false e =
-        rw (← session-models.joined-empty m i)
-        (same-both slots.refusing sessions.beside (λ t. t) sessions.joined slot-models.Refused (λ s. session-models.Good (s .slots)) (λ c t h. h) session-models.keeps slot-models.refuses session-models.agrees
-        calls (record { subscriptions = pd.emptyTable n octets; messages = messages }) (simp length-replicate e, session-models.good-empty i))
+        rw (e, ← sessions-beside.joined-empty m i)
+        (same-both slots.refusing sessions.beside (λ t. t) sessions.joined slots-beside.Refused GoodT (λ c t h. h) sessions-beside.keeps slots-beside.refuses sessions-beside.agrees calls
+        (record { subscriptions = pd.emptyTable n octets; messages = sessions.emptySlots m i }) (simp length-replicate e, sessions-beside.good-empty i))
 
 pub isolation : Isolation
 isolation = record { side-by-side = side-by-side; slot-alone = slot-alone; session-alone = session-alone }
