@@ -119,6 +119,7 @@ SessionAlone s after =
 
 -- ---- the model made of slots and sessions alone
 
+-- each state seen as its own table
 abbrev pub seenBy : {S T : Type 0} → (S → pd.Table) → (T → Tables) → Both S T → Stack
 seenBy f g s = record { subscriptions = f (s .subscriptions); messages = g (s .messages) }
 
