@@ -5,6 +5,8 @@
 
 mod datasets;
 #[cfg(test)]
+mod declared;
+#[cfg(test)]
 mod layout;
 mod publications;
 mod raw;
