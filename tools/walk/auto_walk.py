@@ -256,6 +256,8 @@ class Auto(Fn):
         sets=set(int((q[1] if q[0]=='assign' else q[3])[1]) for q in T if isinstance(q,list) and (q[0]=='call' or q[0]=='assign' and not lst(q[1][2])))
         ch=[i for i in sorted(s.fat) if i in sets]; m=len(ch)
         for i in ch: s.v[i]=s.as_by(s.v[i])
+        for i in sorted(s.fat):        # an address is made anew in each turn
+            if s.v[i][0] not in ('by','word','arg','again'): s.forget(i)
         X=lambda i:'x .%d'%i; z=lambda i:'x .%d'%m+' .1'*i+' .0'; zb=lambda i:'z'+' .1'*i+' .0'
         F='x .%d'%(m+1); lenp=lambda i:F+' .1'+' .1'*i+' .0'; isp=lambda i:F+' .1'+' .1'*len(sl)+' .1'*i+(' .0' if i<m-1 else '')
         nm=['c%s'%str(j).translate(SUB) for j in range(m)]

@@ -1,13 +1,13 @@
 # The functions of the crate `subscriptions`: what each takes, answers and leaves; `hand` where its MIR is walked, with the evidence that the walk cannot find.
 crate='subscriptions'
 # a type: its values, its `By`, its row
-types={'Subscription':('Subscription','subscriptionBy 𝓤 H A W','X.the-row'),'Event':('Event','eventBy 𝓤 H A W','E.the-row'),'Filter':('Filter','filterBy 𝓤 H A W','F.the-row'),'Swept':('Swept','sweptBy 𝓤 H A W','S.the-row'),'Answer':('Answer','answerBy 𝓤 H A W','N.the-row'),'Released':('Released','releasedBy 𝓤 H A W','L.the-row'),'Found':('Found','foundBy 𝓤 H A W','D.the-row'),'Arrival':('Arrival','arrivalBy 𝓤 H A W','P.the-row'),'Reading':('Reading','readingBy 𝓤 H A W','Q.the-row'),'Statistics':('Statistics','statisticsBy 𝓤 H A W','Z.the-row'),'Family':('Family','familyBy 𝓤 H A W','Y.the-row'),
+types={'Subscription':('Subscription','subscriptionBy 𝓤 H A W','X.the-row'),'Event':('Event','eventBy 𝓤 H A W','E.the-row'),'Tally':('Tally','tallyBy 𝓤 H A W','C.the-row'),'Stepped':('Stepped','steppedBy 𝓤 H A W','R.the-row'),'Filter':('Filter','filterBy 𝓤 H A W','F.the-row'),'Swept':('Swept','sweptBy 𝓤 H A W','S.the-row'),'Answer':('Answer','answerBy 𝓤 H A W','N.the-row'),'Released':('Released','releasedBy 𝓤 H A W','L.the-row'),'Found':('Found','foundBy 𝓤 H A W','D.the-row'),'Arrival':('Arrival','arrivalBy 𝓤 H A W','P.the-row'),'Reading':('Reading','readingBy 𝓤 H A W','Q.the-row'),'Statistics':('Statistics','statisticsBy 𝓤 H A W','Z.the-row'),'Family':('Family','familyBy 𝓤 H A W','Y.the-row'),
   'bool':('Bool','boolean 𝓤 H A W','bool'),'u8':('ℕ','unsignedInt 𝓤 H A W w8','u8'),'u32':('ℕ','unsignedInt 𝓤 H A W w32','u32'),'u64':('ℕ','unsignedInt 𝓤 H A W w64','u64'),'usize':('ℕ','unsignedInt 𝓤 H A W w64','usize'),'unit':('Unit {0}','unitBy 𝓤 H A W','unit')}
-structs={'Found':[('bool','held'),('bool','free'),('usize','slot')],'Released':[('Subscription','slot'),('Answer','answer')]}
+structs={'Found':[('bool','held'),('bool','free'),('usize','slot')],'Released':[('Subscription','slot'),('Answer','answer')],'Stepped':[('Subscription','slot'),('Tally','tally')]}
 none={'Subscription':'freeRecord'}
-uses_specs='''use Rattle.subscriptions.proofs.Values.{subscriptionBy, eventBy, filterBy, sweptBy, answerBy, releasedBy, foundBy, arrivalBy, readingBy}
+uses_specs='''use Rattle.subscriptions.proofs.Values.{subscriptionBy, eventBy, tallyBy, steppedBy, filterBy, sweptBy, answerBy, releasedBy, foundBy, arrivalBy, readingBy}
 use Rattle.subscription.specs.Record.{freeRecord, unsound, grantedRecord}
-use mathlib.Core.Bool.{not}
+use mathlib.Core.Bool.{not, cond}
 use Rattle.subscription.specs.Table.{fits, timeCheck, subscribe, unsubscribe, telegram}
 use Rattle.subscription.specs.declared.Subscription.{Subscription}
 use Rattle.subscription.specs.declared.Event.{Event}
@@ -35,27 +35,51 @@ use Rattle.subscriptions.specs.Read.{readBy, Reads}
 use Rattle.subscriptions.proofs.Viewing.{reads, not-there}
 use Rattle.subscriptions.specs.Search.{foundIn, noneFound, looked}
 use Rattle.subscriptions.proofs.Searching.{Seen, goes-on, at-end, nearer, small}
-use Rattle.subscriptions.specs.Sweep.{Sweeps}
+use Rattle.subscription.specs.Step.{concerns, Room as CountRoom, stepOf}
+use Rattle.subscription.specs.declared.Tally.{Tally}
+use Rattle.subscription.specs.declared.Stepped.{Stepped}
+use Rattle.subscriptions.specs.Sweep.{Sweeps, noTally, nextConcerned, storeStepped}
+use Rattle.subscriptions.specs.declared.Swept.the-variants.{Done, Refused as Unswept}
+use Rattle.subscriptions.proofs.Seeking.{Sought, sought, seeks-on, found, nearer-end, below}
+use Rattle.subscriptions.proofs.Slots as slots
 use Rattle.subscriptions.specs.Calls.{Follows, meaning, markedBy, deliveredBy, endOf}
 use Rattle.subscriptions.specs.Named.{away, noSlot, cleared, releasedOf, releasedStore, decided, denied}
 use Rattle.subscriptions.proofs.Granting.{request, unfit-follows, denied-follows, slot-there, granted-follows}
 use Rattle.subscriptions.proofs.Slot.{here, away-follows, here-follows}
 use Rattle.subscriptions.proofs.Follow.{sweptAnswer, sweptRecords, sweptStore, check-follows}
 '''
-uses_proofs=''.join('use %s.%s as %s\nuse %s.%s.Laws as %s′\n'%(c,n,k,c,n,k) for c,n,k in (('Rattle.subscription.proofs','Subscription','X'),('Rattle.subscription.proofs','Event','E'),('Rattle.subscription.proofs','Filter','F'),('Rattle.subscriptions.proofs','Swept','S'),('Rattle.subscriptions.proofs','Answer','N'),('Rattle.subscriptions.proofs','Released','L'),('Rattle.subscriptions.proofs','Found','D'),('Rattle.arrival.proofs','Arrival','P'),('Rattle.subscriptions.proofs','Reading','Q'),('Rattle.statistics.proofs','Statistics','Z'),('Rattle.telegram.proofs','Family','Y')))
+uses_proofs=''.join('use %s.%s as %s\nuse %s.%s.Laws as %s′\n'%(c,n,k,c,n,k) for c,n,k in (('Rattle.subscription.proofs','Subscription','X'),('Rattle.subscription.proofs','Event','E'),('Rattle.subscription.proofs','Tally','C'),('Rattle.subscription.proofs','Stepped','R'),('Rattle.subscription.proofs','Filter','F'),('Rattle.subscriptions.proofs','Swept','S'),('Rattle.subscriptions.proofs','Answer','N'),('Rattle.subscriptions.proofs','Released','L'),('Rattle.subscriptions.proofs','Found','D'),('Rattle.arrival.proofs','Arrival','P'),('Rattle.subscriptions.proofs','Reading','Q'),('Rattle.statistics.proofs','Statistics','Z'),('Rattle.telegram.proofs','Family','Y')))
 L,ST,D,EV,TIME=('l','slice','Subscription'),('st','slice','u8'),('d','shr','u8'),('ev','plain','Event'),('time','plain','u64')
 K,N1,N2=('k','plain','usize'),('n₁','plain','usize'),('n₂','plain','usize')
 T,F,C,I=('t','shr','Subscription'),('fl','plain','Filter'),('c','plain','Found'),('i','plain','usize')
 at=lambda s:'fl t (%s) (%s) (%s)'%(s.x['vars'][1],s.x['vars'][0],s.x['inv'])
+X1,FR,EN=('x','plain','Subscription'),('fr','plain','usize'),('en','plain','usize')
+before=lambda s:'below (%s) (%s) (length t) yes (%s .among)'%(s.x['vars'][1],s.x['vars'][0],s.x['inv'])
+next_at=lambda s:'ev t fr (%s) (%s) (%s)'%(s.x['vars'][0],s.x['vars'][1],s.x['inv'])
+gone=lambda s:'ev d l st (%s .sized) (%s) (%s) (%s) (%s) (%s) (%s) (%s)'%(s.x['inv'],s.x['vars'][0],s.x['vars'][1],s.x['z'][0],s.x['z'][1],s.x_len[0],s.x_len[1],s.x['inv'])
 TM,BH,FS=('tm','plain','u32'),('bh','plain','u8'),('s','plain','Found')
 asked='(request fl tm bh) time l st'
 AR,V,SS=('ar','plain','Arrival'),('v','plain','u8'),('ss','ref','Statistics')
-gone=lambda n:'delivered%s {ar} {d} {l} {st}'%n
+carried=lambda n:'delivered%s {ar} {d} {l} {st}'%n
 swept=lambda n:'swept%s {ev} {d} {l} {st}'%n
 table={
  'clock':dict(params=[TIME],res='Event',w='Clock {time}'),
  'marked':dict(params=[('s','plain','Swept')],res='Answer',w='markedBy {s}'),
- 'sweep':dict(params=[L,ST,EV,D],res='Swept',w=swept('Answer'),last=[swept('Records'),swept('Store')],told=lambda r,l,s:'Sweeps {ev} {d} {l} {st} (%s) (%s) (%s)'%(r,l,s),paths=['e .answers','e .records-after','e .store-after']),
+ 'begin':dict(params=[],res='Tally',w='noTally'),
+ 'done':dict(params=[('c','plain','Tally')],res='Swept',w='Done {c}'),
+ 'unswept':dict(params=[],res='Swept',w='Unswept 1'),
+ 'bound':dict(params=[EN,X1,EV,I],res='usize',w='cond (concerns {ev} {x}) {i} {en}'),
+ 'next_concerned':dict(params=[T,EV,FR],res='usize',w='nextConcerned {ev} {fr} {t}',hand=dict(
+   inv=lambda c,z:'Sought ev t fr %s %s'%(c[0],c[1]),start='sought ev t fr',measure=lambda e,i:e+' - '+i,less=lambda s:'nearer-end (concerns ev (getD t (%s) freeRecord)) (%s) (%s) yes'%(s.x['vars'][1],s.x['vars'][0],s.x['vars'][1]),
+   next=lambda s:'seeks-on %s yes'%next_at(s),end=lambda s:'found %s no'%next_at(s),fits=lambda s,op,a,b:'record { fits = omega (arith, %s, t-room .0) }'%before(s),
+   within=lambda s,p,k:before(s))),
+ 'step_at':dict(params=[X1,('c','plain','Tally'),EV,ST,K,D],res='Stepped',w='stepOf {ev} (length {d}) {x} {c}',last=['storeStepped {ev} {d} {x} {k} {st}'],requires='CountRoom 1 {c} × ({k} * 1432 + 1432 ≤ length {st})'),
+ 'sweep':dict(params=[L,ST,EV,D],res='Swept',w=swept('Answer'),last=[swept('Records'),swept('Store')],told=lambda r,l,s:'Sweeps {ev} {d} {l} {st} (%s) (%s) (%s)'%(r,l,s),paths=['e .answers','e .records-after','e .store-after'],hand=dict(
+   said=lambda s,arm:'slots.unswept ev d l st yes₁',inv=lambda c,z:'slots.Gone ev d l st %s %s (%s) (%s)'%(c[0],c[1],z[0],z[1]),start='slots.starts ev d l st no₁ (l-room .0)',measure=lambda c,i:'length l - '+i,
+   less=lambda s:'slots.nearer %s yes'%gone(s),next=lambda s:'slots.goes-on %s yes'%gone(s),end=lambda s:'slots.swept %s no'%gone(s),
+   fits=lambda s,op,a,b:'record { fits = small (%s) (length l) yes (l-room .0) }'%s.x['vars'][1],index=lambda s,p,k:'ltb-true (%s) (length l) yes'%s.x['vars'][1],
+   within=lambda s,p,k:'subst (λ (m : ℕ). %s < m) (sym (%s)) (ltb-true (%s) (length l) yes)'%(s.x['vars'][1],s.x_len[0],s.x['vars'][1]),
+   requires=lambda s,g,n:'slots.asked %s (ltb-true (%s) (length l) yes)'%(gone(s),s.x['vars'][1]))),
  'time_check':dict(root=True,params=[L,ST,TIME],res='Answer',told=lambda r,l,s:'Follows (timeCheck {time}) {l} {st} (meaning (%s)) (%s) (%s)'%(r,l,s),hand=dict(said=lambda s,arm:'check-follows time l st')),
  'is_away':dict(params=[N1,N2,K],res='bool',w='away {n₁} {n₂} {k}'),
  'refusal':dict(params=[N1,N2],res='Answer',w='noSlot {n₁} {n₂}'),
@@ -81,7 +105,7 @@ table={
  'hear':dict(params=[AR,D],res='Event',w='Telegram (heardOf {ar} {d})',requires='40 ≤ length {d}'),
  'dataset_end':dict(params=[D],res='usize',w='endOf {d}',requires='40 ≤ length {d}'),
  'delivered':dict(params=[('s','plain','Swept')],res='Answer',w='deliveredBy {s}'),
- 'deliver':dict(params=[L,ST,AR,D],res='Answer',w=gone('Answer'),last=[gone('Records'),gone('Store')],paths=['answered ar d l st r (e .answers)','e .records-after','e .store-after'],told=lambda r,l,s:'Follows (telegram {ar} {d}) {l} {st} (meaning (%s)) (%s) (%s)'%(r,l,s),
+ 'deliver':dict(params=[L,ST,AR,D],res='Answer',w=carried('Answer'),last=[carried('Records'),carried('Store')],paths=['answered ar d l st r (e .answers)','e .records-after','e .store-after'],told=lambda r,l,s:'Follows (telegram {ar} {d}) {l} {st} (meaning (%s)) (%s) (%s)'%(r,l,s),
    hand=dict(said=lambda s,arm:{'yes₁':'unfit-follows (telegram ar d) l st yes₁','yes₂':'refused-follows ar d l st no₁ yes₂'}.get(arm,'received-follows ar d l st no₂'),requires=lambda s,g,n:'has-header ar d no₂',
      **{'from':lambda s,p,k:'has-header ar d no₂','less-by':lambda s,a,b:('dataset-ends d','record { fits = dataset-counts ar d no₂ (d-room .0) }'),'part':lambda s,p,k,n:'payload ar d','part-length':lambda s,p,k,n:'payload-length ar d no₂'})),
  'is_uncounted':dict(params=[('x','plain','Answer')],res='bool',w='uncounted (meaning {x})'),

@@ -18,6 +18,11 @@ abbrev pub reaches : Event → Subscription → Bool
 reaches (Telegram h) r = recordWants h r
 reaches (Clock time) r = false
 
+-- an event concerns the slots that it can change or count: a telegram those whose filter matches, the clock those whose time is up
+abbrev pub concerns : Event → Subscription → Bool
+concerns (Telegram h) r = recordWants h r
+concerns (Clock time) r = recordDue time r
+
 -- the slot takes a telegram with a dataset of n octets (more than a part can hold are taken by none), or is marked
 abbrev pub changes : Event → ℕ → Subscription → Bool
 changes (Telegram h) n r = leb n 1432 && recordTakes h r

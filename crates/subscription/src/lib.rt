@@ -5,7 +5,7 @@ ghost use mathlib.Core.Path.{_≡_};
 ghost use Prim.Native.Nat.{_+_};
 ghost use lib.ListN.{length};
 ghost use Rattle.subscription.specs.Record.{matches, unsound, equal, forgotten, forget, remembered, fresh, freeRecord, grantedRecord, recordWants, recordTakes, recordTaken, stateOf, recordDue, recordMarked, substitutes};
-ghost use Rattle.subscription.specs.Step.{one, Room, Steps, storedAt, shownAt};
+ghost use Rattle.subscription.specs.Step.{concerns, one, Room, Steps, storedAt, shownAt};
 
 // Which telegrams a subscription is for: a ComId, a range of senders, a destination (0: any).
 #[repr(C)]
@@ -262,6 +262,16 @@ pub fn mark(r: Subscription) -> Subscription
         state: 2,
         last: l.forget(),
         length: r.length,
+    }
+}
+
+// An event concerns a slot: its filter matches the telegram, or its time is up.
+pub fn is_concerned(r: Subscription, ev: Event) -> bool
+    ensures { λ b. ⌜ b ≡ concerns ev r ⌝ }
+{
+    match ev {
+        Event::Telegram(h) => is_wanted(r, h),
+        Event::Clock(time) => is_due(r, time),
     }
 }
 

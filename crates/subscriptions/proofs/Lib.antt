@@ -1,4 +1,5 @@
 pub mod Values
+pub mod Seeking
 pub mod Slots
 pub mod Follow
 pub mod Slot
@@ -33,3 +34,9 @@ pub mod AsReadRecord
 pub mod AsDeliver
 pub mod AsIsUncounted
 pub mod AsOutcomeOf
+pub mod AsBegin
+pub mod AsDone
+pub mod AsUnswept
+pub mod AsBound
+pub mod AsNextConcerned
+pub mod AsStepAt

@@ -1,80 +1,35 @@
--- The sweep over the slots, as the walk over any list and its store has it.
+-- The sweep over the slots: what each slot leaves to the slots behind it.
 -- Assumes nothing.
-use Prim.Native.Nat.{ℕ, zero, suc, _+_, _*_, _<_, _≤_, _^_}
+use Prim.Native.Nat.{ℕ, zero, suc, _+_, _*_, _-_, _<_, _≤_, _^_}
 use native.Mathlib.Omega.{arith}
-use mathlib.Core.Path.{_≡_, refl, sym, _∙_, ap}
-use mathlib.Core.List.{List, [], _∷_, _++_, map}
-use mathlib.Core.Bool.{Bool, true, false, cond, _&&_}
-use lib.Dec.{leb}
-use lib.ListN.{length, take, drop, replicate, length-replicate, length-append, length-drop}
-use borrow.Author.Tests.{leb-true}
-use Rattle.octets.specs.Octets.{put}
+use native.Mathlib.Numerals.{add-one}
+use mathlib.Core.Path.{_≡_, refl, sym, _∙_, ap, subst}
+use mathlib.Core.List.{List, [], _∷_, _++_, map, append-nil, append-assoc}
+use mathlib.Core.Bool.{Bool, true, false, cond, not, _&&_, false≢true}
+use lib.Dec.{leb, ltb}
+use lib.ListN.{length, take, drop, getD, set, replicate, length-replicate, length-append, length-drop, length-set, take-append-drop, drop-of-length-le}
+use lib.Seq.{drop-cons, take-all, take-suc-set, drop-set-lt, append-snoc, set-getD, length-take-le, drop-drop, take-at, drop-at}
+use borrow.Author.Tests.{leb-true, ltb-true, ltb-false}
+use Rattle.octets.specs.Octets.{part, put}
+use Rattle.octets.proofs.Parts.{part-length, put-mid}
 use Rattle.octets.proofs.Puts.{put-start}
 use Rattle.subscription.specs.Record.{freeRecord, recordTakes, recordDue, zeroes}
 use Rattle.subscription.specs.Slot.{slotOctets}
-use Rattle.subscription.specs.Step.{recordAfter, partAfter, changes, changedPart, reaches, one, tallied, stepOf, Steps, Room}
+use Rattle.subscription.specs.Step.{recordAfter, partAfter, changes, reaches, concerns, tallied, Room}
 use Rattle.subscription.specs.Table.{fits}
 use Rattle.subscription.specs.declared.Event.{Event}
 use Rattle.subscription.specs.declared.Event.the-variants.{Telegram, Clock}
 use Rattle.subscription.specs.declared.Subscription.{Subscription}
 use Rattle.subscription.specs.declared.Tally.{Tally}
-use Rattle.subscription.specs.declared.Stepped.{Stepped}
 use Rattle.subscription.proofs.Lent.{fits-means}
-use Rattle.subscription.proofs.Stepping.{one-small}
-use Rattle.subscriptions.specs.Sweep.{storeAfter, tallyAfter, noTally, lentSlots, sweptBy, Sweeps}
-use Rattle.subscriptions.specs.declared.Swept.{Swept}
+use Rattle.subscription.proofs.Stepping.{one-small, record-stays, part-stays, tally-stays}
+use Rattle.subscriptions.specs.Sweep.{storeAfter, tallyAfter, noTally, nextConcerned, storeStepped, Sweeps}
 use Rattle.subscriptions.specs.declared.Swept.the-variants.{Done, Refused}
-use Rattle.walks.proofs.PartSweep as sw
+use Rattle.subscriptions.proofs.Granting.{fit}
+use Rattle.subscriptions.proofs.Seeking.{passes}
 
--- what `getD` gives past the end
-abbrev pub none : Subscription
-none = freeRecord
+-- ---- a part that is written is as long as it was
 
-abbrev pub out : Stepped → Subscription
-out z = z .slot
-
-abbrev pub acc : Stepped → Tally
-acc z = z .tally
-
-abbrev pub Ok : ℕ → Tally → Type 0
-Ok = Room
-
-abbrev pub lent : ℕ → ℕ → ℕ
-lent = lentSlots
-
-abbrev pub first : Tally
-first = noTally
-
-abbrev pub answer : ℕ → ℕ → Tally → Swept
-answer = sweptBy
-
--- ---- the bound: all slots, or none
-
-few : (n : ℕ) (b : Bool) → cond b n 0 ≤ n
-few n true = omega arith
-few n false = omega arith
-
-pub lent-few : (n m : ℕ) → lent n m ≤ n
-lent-few n m = few n (fits n m)
-
-fitting : (n m : ℕ) (b : Bool) → fits n m ≡ b → cond b n 0 * 1432 ≤ m
-unfolding slotOctets
-fitting n m true e = let k = fits-means n m e in omega (arith, k .1)
-fitting n m false e = omega arith
-
-pub lent-fit : (n m : ℕ) → lent n m * 1432 ≤ m
-lent-fit n m = fitting n m (fits n m) refl
-
-pub first-ok : (n m : ℕ) → n < 2 ^ 64 → Ok (lent n m) first
-first-ok n m h = record { matched = omega (arith, lent-few n m); changed = omega (arith, lent-few n m) }
-
--- ---- the step at one slot
-
--- both counts can grow by one
-pub asked : (n : ℕ) (t : Tally) → Ok (suc n) t → Room 1 t
-asked n t h = record { matched = omega (arith, h .matched); changed = omega (arith, h .changed) }
-
--- a part that is written is as long as it was
 cleared-length : (b : Bool) (p : List ℕ) → length (cond b (replicate (length p) 0) p) ≡ length p
 cleared-length true p = length-replicate (length p) 0
 cleared-length false p = refl
@@ -86,76 +41,168 @@ both : (a b : Bool) → a && b ≡ true → a ≡ true
 both true b e = refl
 both false b e = e
 
-part-length : (ev : Event) (d : List ℕ) (r : Subscription) (p : List ℕ) → length p ≡ 1432 → length (partAfter ev d r p) ≡ length p
-part-length (Clock time) d r p e = go (recordDue time r)
+pub after-length : (ev : Event) (d : List ℕ) (r : Subscription) (p : List ℕ) → length p ≡ 1432 → length (partAfter ev d r p) ≡ 1432
+after-length (Clock time) d r p e = go (recordDue time r) ∙ e
   where
     go : (b : Bool) → length (cond b (cond (zeroes r) (replicate (length p) 0) p) p) ≡ length p
     go true = cleared-length (zeroes r) p
     go false = refl
-part-length (Telegram h) d r p e = go (leb (length d) 1432 && recordTakes h r) refl
+after-length (Telegram h) d r p e = go (leb (length d) 1432 && recordTakes h r) refl ∙ e
   where
     go : (b : Bool) → leb (length d) 1432 && recordTakes h r ≡ b → length (cond b (put 0 d p) p) ≡ length p
     go true c = put-length d p (let k = leb-true (length d) 1432 (both (leb (length d) 1432) (recordTakes h r) c) in omega (arith, k))
     go false c = refl
 
-module _ (ev : Event) (d : List ℕ) where
-  abbrev pub step : Subscription → Tally → List ℕ → Stepped
-  step r t p = stepOf ev (length d) r t
+-- a part put where it was taken from
+put-part : (n k : ℕ) (s : List ℕ) → k + n ≤ length s → put k (part n k s) s ≡ s
+put-part n k s h =
+    sym (put-mid k n s (part n k s) (sym (part-length n k s h)))
+    ∙ ap (λ (l : List ℕ). take k s ++ l) (take-append-drop n (drop k s)) ∙ take-append-drop k s
 
-  abbrev pub part : Subscription → Tally → List ℕ → List ℕ
-  part r t p = partAfter ev d r p
+-- ---- after the slots before number i: what the slots from there on leave is what all slots leave
+pub record Gone (ev : Event) (d : List ℕ) (rs : List Subscription) (st : List ℕ) (c : Tally) (i : ℕ) (rs′ : List Subscription) (st′ : List ℕ) : Type 0 where
+  pub sized : not (fits (length rs) (length st)) ≡ false
+  pub among : i ≤ length rs
+  pub room : Room (length rs - i) c
+  pub records-left : take i rs′ ++ map (recordAfter ev (length d)) (drop i rs′) ≡ map (recordAfter ev (length d)) rs
+  pub store-left : take (i * 1432) st′ ++ storeAfter ev d (drop i rs′) (drop (i * 1432) st′) ≡ storeAfter ev d rs st
+  pub tally-left : tallyAfter ev (length d) (drop i rs′) c ≡ tallyAfter ev (length d) rs noTally
 
-  pub same : (r : Subscription) (t : Tally) (p : List ℕ) → length p ≡ 1432 → length (part r t p) ≡ length p
-  same r t p e = part-length ev d r p e
+module _ (ev : Event) (d : List ℕ) (rs : List Subscription) (st : List ℕ) where
+  -- sizes are wrong: all stays
+  pub unswept : not (fits (length rs) (length st)) ≡ true → Sweeps ev d rs st (Refused 1) rs st
+  unswept e = go (fits (length rs) (length st)) refl e
+    where
+      go : (b : Bool) → fits (length rs) (length st) ≡ b → not b ≡ true → Sweeps ev d rs st (Refused 1) rs st
+      go true f h = absurd (false≢true h)
+      go false f h = record { answers = rw f refl; records-after = rw f refl; store-after = rw f refl }
 
-  -- a step counts at most one more
-  pub goes-on : (m : ℕ) (r : Subscription) (t : Tally) (p : List ℕ) → Ok (suc m) t → Ok m (acc (step r t p))
-  goes-on m r t p h =
-      record {
-        matched = omega (arith, h .matched, one-small (reaches ev r));
-        changed = omega (arith, h .changed, one-small (changes ev (length d) r));
-      }
+  module _ (sized : not (fits (length rs) (length st)) ≡ false) where
+    fitting : fits (length rs) (length st) ≡ true
+    fitting = fit (fits (length rs) (length st)) sized
 
-  -- what the step's contract says, as the walk asks it
-  abbrev pub Told : Subscription → Tally → List ℕ → Stepped → List ℕ → Type 0
-  Told r t p s after = Steps ev d r t p s after
+    -- the store has a part for each slot
+    enough : length st ≡ length rs * 1432
+    unfolding slotOctets
+    enough = fits-means (length rs) (length st) fitting .1
 
-  pub told : (r : Subscription) (t : Tally) (p : List ℕ) (s : Stepped) (after : List ℕ) → Told r t p s after → (s ≡ step r t p) × (after ≡ part r t p)
-  told r t p s after h = (h .answers, h .leaves)
+    begun : length rs < 2 ^ 64 → Gone ev d rs st noTally 0 rs st
+    begun h = record { sized = sized; among = omega arith; room = record { matched = omega arith; changed = omega arith }; records-left = refl; store-left = refl; tally-left = refl }
 
-  -- ---- all slots
+    module _ (c : Tally) (i : ℕ) (rs′ : List Subscription) (st′ : List ℕ) (same : length rs′ ≡ length rs) (same-store : length st′ ≡ length st) where
+      abbrev r : Subscription
+      r = getD rs′ i freeRecord
 
-  records-map : (rs : List Subscription) (t : Tally) (st : List ℕ) → sw.outOf 1432 step part out acc rs t st ≡ map (recordAfter ev (length d)) rs
-  unfolding sw.outOf
-  records-map [] t st = refl
-  records-map (r ∷ rs) t st = ap (λ l. recordAfter ev (length d) r ∷ l) (records-map rs (tallied ev (length d) r t) (drop 1432 st))
+      module _ (g : Gone ev d rs st c i rs′ st′) (h : i < length rs) where
+        part-in : i * 1432 + 1432 ≤ length st′
+        part-in = omega (arith, h, same-store, enough)
 
-  store-parts : (rs : List Subscription) (t : Tally) (st : List ℕ) → sw.stOf 1432 step part out acc rs t st ≡ storeAfter ev d rs st
-  unfolding sw.stOf slotOctets
-  store-parts [] t st = refl
-  store-parts (r ∷ rs) t st = ap (λ l. partAfter ev d r (take 1432 st) ++ l) (store-parts rs (tallied ev (length d) r t) (drop 1432 st))
+        -- what the step asks
+        pub asked : Room 1 c × (i * 1432 + 1432 ≤ length st′)
+        asked = (record { matched = omega (arith, h, g .room .matched); changed = omega (arith, h, g .room .changed) }, part-in)
 
-  tally-all : (rs : List Subscription) (t : Tally) (st : List ℕ) → sw.accOf 1432 step part out acc rs t st ≡ tallyAfter ev (length d) rs t
-  unfolding sw.accOf
-  tally-all [] t st = refl
-  tally-all (r ∷ rs) t st = tally-all rs (tallied ev (length d) r t) (drop 1432 st)
+        within : i < length rs′
+        within = omega (arith, h, same)
 
-  module _ (rs : List Subscription) (t : Tally) (st : List ℕ) where
-    all-records : (b : Bool) → sw.after 1432 step part out acc rs t st (cond b (length rs) 0) ≡ cond b (map (recordAfter ev (length d)) rs) rs
-    all-records true = sw.after-all 1432 step part out acc rs t st ∙ records-map rs t st
-    all-records false = sym (sw.after-zero 1432 step part out acc rs t st)
+        here : drop i rs′ ≡ r ∷ drop (suc i) rs′
+        here = drop-cons rs′ i freeRecord within
 
-    all-store : (b : Bool) → sw.stOf 1432 step part out acc (take (cond b (length rs) 0) rs) t st ≡ cond b (storeAfter ev d rs st) st
-    all-store true = sw.st-all 1432 step part out acc rs t st ∙ store-parts rs t st
-    all-store false = sym (sw.st-zero 1432 step part out acc rs t st)
+        abbrev y : Subscription
+        y = recordAfter ev (length d) r
 
-    all-answer : (b : Bool) → cond b (Done (sw.accOf 1432 step part out acc (take (cond b (length rs) 0) rs) t st)) (Refused 1) ≡ cond b (Done (tallyAfter ev (length d) rs t)) (Refused 1)
-    all-answer true = ap Done (sw.acc-all 1432 step part out acc rs t st ∙ tally-all rs t st)
-    all-answer false = refl
+        behind : drop (suc i) (set rs′ i y) ≡ drop (suc i) rs′
+        behind = drop-set-lt (suc i) rs′ i y (omega arith)
 
-  -- the walk's contract gives the sweep's
-  pub said : (rs : List Subscription) (st : List ℕ) (rs′ : List Subscription) (st′ : List ℕ) (a : Swept)
-      → sw.SweptUpto 1432 step part out acc (lent (length rs) (length st)) (answer (length rs) (length st)) rs noTally st rs′ st′ a → Sweeps ev d rs st a rs′ st′
-  said rs st rs′ st′ a e =
-      let b : Bool = fits (length rs) (length st) in
-      record { answers = e .1 .1 ∙ all-answer rs noTally st b; records-after = e .0 ∙ all-records rs noTally st b; store-after = e .1 .0 ∙ all-store rs noTally st b }
+        abbrev p : List ℕ
+        p = partAfter ev d r (part 1432 (i * 1432) st′)
+
+        p-length : length p ≡ 1432
+        p-length = after-length ev d r (part 1432 (i * 1432) st′) (part-length 1432 (i * 1432) st′ part-in)
+
+        ends : length (take (i * 1432) st′ ++ p) ≡ suc i * 1432
+        ends = length-append (take (i * 1432) st′) p ∙ omega (arith, p-length, length-take-le (i * 1432) st′ (omega (arith, part-in)))
+
+        abbrev rest : List ℕ
+        rest = drop (i * 1432 + length p) st′
+
+        pub same-length : length (storeStepped ev d r i st′) ≡ length st′
+        unfolding slotOctets
+        same-length = length-append (take (i * 1432) st′ ++ p) rest ∙ omega (arith, ends, part-in, p-length, length-drop (i * 1432 + length p) st′)
+
+        store-on : take (suc i * 1432) (put (i * 1432) p st′) ++ storeAfter ev d (drop (suc i) (set rs′ i y)) (drop (suc i * 1432) (put (i * 1432) p st′))
+            ≡ take (i * 1432) st′ ++ storeAfter ev d (drop i rs′) (drop (i * 1432) st′)
+        unfolding slotOctets
+        store-on =
+            ap (λ (l : List ℕ). l ++ storeAfter ev d (drop (suc i) (set rs′ i y)) (drop (suc i * 1432) (put (i * 1432) p st′))) (take-at (take (i * 1432) st′ ++ p) rest (suc i * 1432) ends)
+            ∙ ap (λ (l : List ℕ). (take (i * 1432) st′ ++ p) ++ storeAfter ev d (drop (suc i) (set rs′ i y)) l) (drop-at (take (i * 1432) st′ ++ p) rest (suc i * 1432) ends ∙ ap (λ (m : ℕ). drop (i * 1432 + m) st′) p-length ∙ sym (drop-drop 1432 (i * 1432) st′))
+            ∙ ap (λ (l : List Subscription). (take (i * 1432) st′ ++ p) ++ storeAfter ev d l (drop 1432 (drop (i * 1432) st′))) behind
+            ∙ append-assoc (take (i * 1432) st′) p (storeAfter ev d (drop (suc i) rs′) (drop 1432 (drop (i * 1432) st′)))
+            ∙ ap (λ (l : List Subscription). take (i * 1432) st′ ++ storeAfter ev d l (drop (i * 1432) st′)) (sym here)
+
+        -- slot i takes the event
+        pub stepped : Gone ev d rs st (tallied ev (length d) r c) (i + 1) (set rs′ i y) (storeStepped ev d r i st′)
+        unfolding slotOctets
+        stepped =
+            record {
+              sized = sized;
+              among = omega (arith, h);
+              room =
+                  record {
+                    matched = omega (arith, h, g .room .matched, one-small (reaches ev r));
+                    changed = omega (arith, h, g .room .changed, one-small (changes ev (length d) r));
+                  };
+              records-left = rw (add-one, take-suc-set rs′ i y within, behind, append-snoc) (ap (λ (l : List Subscription). take i rs′ ++ map (recordAfter ev (length d)) l) (sym here) ∙ g .records-left);
+              store-left = rw add-one (store-on ∙ g .store-left);
+              tally-left = rw (add-one, behind) (ap (λ (l : List Subscription). tallyAfter ev (length d) l c) (sym here) ∙ g .tally-left);
+            }
+
+        -- the event does not concern slot i
+        skipped : concerns ev r ≡ false → Gone ev d rs st c (i + 1) rs′ st′
+        unfolding slotOctets
+        skipped e =
+            subst (λ (t : Tally). Gone ev d rs st t (i + 1) rs′ st′) (tally-stays ev r e (length d) c)
+            (subst (λ (l : List Subscription). Gone ev d rs st (tallied ev (length d) r c) (i + 1) l st′) (ap (set rs′ i) (record-stays ev r e (length d)) ∙ set-getD rs′ i freeRecord)
+            (subst (λ (s : List ℕ). Gone ev d rs st (tallied ev (length d) r c) (i + 1) (set rs′ i y) s) (ap (λ (q : List ℕ). put (i * 1432) q st′) (part-stays ev r e d (part 1432 (i * 1432) st′)) ∙ put-part 1432 (i * 1432) st′ part-in)
+            stepped))
+
+      -- all slots are behind
+      pub swept : Gone ev d rs st c i rs′ st′ → ltb i (length rs) ≡ false → Sweeps ev d rs st (Done c) rs′ st′
+      swept g b =
+          let none : drop i rs′ ≡ [] = drop-of-length-le rs′ {i = i} (omega (arith, same, ltb-false i (length rs) b)) in
+          let all : take i rs′ ≡ rs′ = take-all i rs′ (omega (arith, same, ltb-false i (length rs) b)) in
+          record {
+            answers = rw fitting (ap Done (ap (λ (l : List Subscription). tallyAfter ev (length d) l c) (sym none) ∙ g .tally-left));
+            records-after =
+                rw fitting (sym (append-nil rs′) ∙ ap (λ (l : List Subscription). l ++ []) (sym all) ∙ ap (λ (l : List Subscription). take i rs′ ++ map (recordAfter ev (length d)) l) (sym none) ∙ g .records-left);
+            store-after = rw fitting (sym (take-append-drop (i * 1432) st′) ∙ ap (λ (l : List Subscription). take (i * 1432) st′ ++ storeAfter ev d l (drop (i * 1432) st′)) (sym none) ∙ g .store-left);
+          }
+
+    -- from number i to the next slot that the event concerns
+    goes-to : (c : Tally) (i : ℕ) (rs′ : List Subscription) (st′ : List ℕ) → length rs′ ≡ length rs → length st′ ≡ length st → Gone ev d rs st c i rs′ st′
+        → (i ≤ nextConcerned ev i rs′) × Gone ev d rs st c (nextConcerned ev i rs′) rs′ st′
+    goes-to c i rs′ st′ same same-store g =
+        passes ev rs′ (λ (k : ℕ). (i ≤ k) × Gone ev d rs st c k rs′ st′) (λ k h e q. (omega (arith, q .0), skipped c k rs′ st′ same same-store (q .1) (omega (arith, h, same)) e))
+        (length rs - i) i (omega (arith, same, g .among)) (omega arith, g)
+
+    pub starts : length rs < 2 ^ 64 → Gone ev d rs st noTally (nextConcerned ev 0 rs) rs st
+    starts h = goes-to noTally 0 rs st refl refl (begun h) .1
+
+    module _ (c : Tally) (i : ℕ) (rs′ : List Subscription) (st′ : List ℕ) (same : length rs′ ≡ length rs) (same-store : length st′ ≡ length st) (g : Gone ev d rs st c i rs′ st′) (b : ltb i (length rs) ≡ true) where
+      abbrev x : Subscription
+      x = getD rs′ i freeRecord
+
+      abbrev now-records : List Subscription
+      now-records = set rs′ i (recordAfter ev (length d) x)
+
+      abbrev now-store : List ℕ
+      now-store = storeStepped ev d x i st′
+
+      on : (i + 1 ≤ nextConcerned ev (i + 1) now-records) × Gone ev d rs st (tallied ev (length d) x c) (nextConcerned ev (i + 1) now-records) now-records now-store
+      on = goes-to (tallied ev (length d) x c) (i + 1) now-records now-store (length-set rs′ i (recordAfter ev (length d) x) ∙ same) (same-length c i rs′ st′ same same-store g (ltb-true i (length rs) b) ∙ same-store) (stepped c i rs′ st′ same same-store g (ltb-true i (length rs) b))
+
+      -- a turn: slot i takes the event, and the next one that it concerns follows
+      pub goes-on : Gone ev d rs st (tallied ev (length d) x c) (nextConcerned ev (i + 1) now-records) now-records now-store
+      goes-on = on .1
+
+      pub nearer : length rs - nextConcerned ev (i + 1) now-records < length rs - i
+      nearer = omega (arith, on .0, ltb-true i (length rs) b)

@@ -9,6 +9,10 @@ use Rattle.subscription.proofs.Subscription as Subscription
 use Rattle.subscription.proofs.Subscription.Laws as Subscription′
 use Rattle.subscription.proofs.Event as Event
 use Rattle.subscription.proofs.Event.Laws as Event′
+use Rattle.subscription.proofs.Tally as Tally
+use Rattle.subscription.proofs.Tally.Laws as Tally′
+use Rattle.subscription.proofs.Stepped as Stepped
+use Rattle.subscription.proofs.Stepped.Laws as Stepped′
 use Rattle.subscription.proofs.Filter as Filter
 use Rattle.subscription.proofs.Filter.Laws as Filter′
 use Rattle.subscriptions.proofs.Swept as Swept
@@ -30,6 +34,12 @@ module _ {M : Type 1} (𝓤 : URA M) (H : Heap 𝓤) (A : Atoms 𝓤) (W : Given
 
   abbrev pub eventBy : By 𝓤 H A
   eventBy = chosen 𝓤 H A W Event.the-type Event′.the-laws Event′.the-plain Event′.lowers tt
+
+  abbrev pub tallyBy : By 𝓤 H A
+  tallyBy = declared 𝓤 H A W Tally.the-type Tally′.the-laws Tally′.the-plain Tally′.lowers
+
+  abbrev pub steppedBy : By 𝓤 H A
+  steppedBy = declared 𝓤 H A W Stepped.the-type Stepped′.the-laws Stepped′.the-plain Stepped′.lowers
 
   abbrev pub filterBy : By 𝓤 H A
   filterBy = declared 𝓤 H A W Filter.the-type Filter′.the-laws Filter′.the-plain Filter′.lowers

@@ -1,5 +1,5 @@
 -- An event at every slot of a lent table: records, store and tally after it.
-use Prim.Native.Nat.{ℕ, _*_}
+use Prim.Native.Nat.{ℕ, _+_, _*_}
 use mathlib.Core.Path.{_≡_}
 use mathlib.Core.List.{List, [], _∷_, _++_, map}
 use mathlib.Core.Bool.{Bool, cond}
@@ -7,7 +7,8 @@ use lib.ListN.{length, take, drop}
 use Rattle.subscription.specs.declared.Event.{Event}
 use Rattle.subscription.specs.declared.Subscription.{Subscription}
 use Rattle.subscription.specs.declared.Tally.{Tally}
-use Rattle.subscription.specs.Step.{recordAfter, partAfter, tallied}
+use Rattle.octets.specs.Octets.{part, put}
+use Rattle.subscription.specs.Step.{concerns, recordAfter, partAfter, tallied}
 use Rattle.subscription.specs.Slot.{slotOctets}
 use Rattle.subscription.specs.Table.{fits}
 use Rattle.subscriptions.specs.declared.Swept.{Swept}
@@ -26,13 +27,18 @@ tallyAfter ev n (r ∷ rs) t = tallyAfter ev n rs (tallied ev n r t)
 abbrev pub noTally : Tally
 noTally = record { matched = 0; changed = 0 }
 
--- the slots that a sweep goes over: none where sizes are wrong
-abbrev pub lentSlots : ℕ → ℕ → ℕ
-lentSlots slots octets = cond (fits slots octets) slots 0
+-- the first record that an event concerns, counted from number i on; e where there is none
+abbrev pub seek : Event → List Subscription → ℕ → ℕ → ℕ
+seek ev [] i e = e
+seek ev (r ∷ rs) i e = cond (concerns ev r) i (seek ev rs (i + 1) e)
 
--- what was counted, or a refusal where sizes are wrong
-abbrev pub sweptBy : ℕ → ℕ → Tally → Swept
-sweptBy slots octets t = cond (fits slots octets) (Done t) (Refused 1)
+-- the first slot from number i on that an event concerns; the number of slots where there is none
+abbrev pub nextConcerned : Event → ℕ → List Subscription → ℕ
+nextConcerned ev i records = seek ev (drop i records) i (length records)
+
+-- the store after slot k's part took an event
+abbrev pub storeStepped : Event → List ℕ → Subscription → ℕ → List ℕ → List ℕ
+storeStepped ev dataset r k store = put (k * slotOctets) (partAfter ev dataset r (part slotOctets (k * slotOctets) store)) store
 
 -- sizes that are wrong are refused with 1, and all stays
 pub record Sweeps (ev : Event) (dataset : List ℕ) (records : List Subscription) (store : List ℕ) (swept : Swept) (records′ : List Subscription) (store′ : List ℕ) : Type 0 where

@@ -6,6 +6,7 @@ use subscription::Event;
 use subscription::Filter;
 use subscription::Heard;
 use subscription::State;
+use subscription::Stepped;
 use subscription::Subscription;
 use subscription::Tally;
 use telegram::Family;
@@ -25,7 +26,8 @@ ghost use Rattle.subscriptions.specs.Receive.{Receives, uncounted, outco
 ghost use Rattle.subscriptions.specs.Search.{noneFound, looked, foundIn};
 ghost use Rattle.subscriptions.specs.Read.{Reads, readBy, shown, octetsOf};
 ghost use Rattle.subscriptions.specs.Named.{away, noSlot, cleared, releasedOf, releasedStore, decided, denied};
-ghost use Rattle.subscriptions.specs.Sweep.{Sweeps, lentSlots, sweptBy, noTally};
+ghost use Rattle.subscription.specs.Step.{concerns, Room, stepOf};
+ghost use Rattle.subscriptions.specs.Sweep.{Sweeps, nextConcerned, storeStepped, noTally};
 
 // What a sweep over the slots answers.
 pub enum Swept {
@@ -81,16 +83,6 @@ fn is_fit(slots: usize, octets: usize) -> bool
     octets == slots * 1432
 }
 
-// How many slots a sweep goes over: none where sizes are wrong.
-fn lent(slots: usize, octets: usize) -> usize
-    ensures { λ r. ⌜ r ≡ lentSlots slots octets ⌝ }
-{
-    if is_fit(slots, octets) {
-        return slots;
-    }
-    0
-}
-
 // Before the first slot nothing is counted.
 fn begin() -> Tally
     ensures { λ r. ⌜ r ≡ noTally ⌝ }
@@ -101,31 +93,77 @@ fn begin() -> Tally
     }
 }
 
-// What was counted, or a refusal where sizes are wrong.
-fn reply(slots: usize, octets: usize, c: Tally) -> Swept
-    ensures { λ r. ⌜ r ≡ sweptBy slots octets c ⌝ }
+// What was counted.
+fn done(c: Tally) -> Swept
+    ensures { λ r. ⌜ r ≡ Swept.Done c ⌝ }
 {
-    if is_fit(slots, octets) {
-        return Swept::Done(c);
-    }
+    Swept::Done(c)
+}
+
+// Sizes are wrong: nothing is counted.
+fn unswept() -> Swept
+    ensures { λ r. ⌜ r ≡ Swept.Refused 1 ⌝ }
+{
     Swept::Refused(refusal::SIZES)
 }
 
-// A telegram that passed checks 2 to 7, or the clock, at every slot. Sizes that are wrong are refused with 1.
+// Where a search ends: at record i where the event concerns it, else where it would have ended before.
+fn bound(end: usize, r: Subscription, ev: Event, i: usize) -> usize
+    ensures { λ q. ⌜ q ≡ cond (concerns ev r) i end ⌝ }
+{
+    if subscription::is_concerned(r, ev) {
+        return i;
+    }
+    end
+}
+
+// The first slot from number `from` on that an event concerns; the number of slots where there is none.
+fn next_concerned(t: &[Subscription], ev: Event, from: usize) -> usize
+    ensures { λ r. ⌜ r ≡ nextConcerned ev from (now (t .entry)) ⌝ }
+{
+    let mut end = t.len();
+    let mut i = from;
+    while i < end {
+        end = bound(end, t[i], ev, i);
+        i = i + 1;
+    }
+    end
+}
+
+// An event at slot k: its record, its part of the store, and the tally carried on.
+fn step_at(
+    r: Subscription,
+    c: Tally,
+    ev: Event,
+    store: &mut [u8],
+    k: usize,
+    dataset: &[u8],
+) -> Stepped
+    requires { ⌜ Room 1 c × (k * 1432 + 1432 ≤ length (now store)) ⌝ }
+    ensures { λ s. ⌜ (s ≡ stepOf ev (length (now (dataset .entry))) r c) × (now (store .exit) ≡ storeStepped ev (now (dataset .entry)) r k (now (store .entry))) ⌝ }
+{
+    let from = k * 1432;
+    let to = from + 1432;
+    subscription::step(r, c, ev, &mut store[from..to], dataset)
+}
+
+// A telegram that passed checks 2 to 7, or the clock, at every slot; one that it does not concern stays. Sizes that are wrong are
+// refused with 1.
 pub fn sweep(t: &mut [Subscription], store: &mut [u8], ev: Event, dataset: &[u8]) -> Swept
     ensures { λ r. ⌜ Sweeps ev (now (dataset .entry)) (now (t .entry)) (now (store .entry)) r (now (t .exit)) (now (store .exit)) ⌝ }
 {
-    let n = lent(t.len(), store.len());
-    let mut c = begin();
-    let mut i: usize = 0;
-    while i < n {
-        let f = i * 1432;
-        let m = subscription::step(t[i], c, ev, &mut store[f..f + 1432], dataset);
-        t[i] = m.slot;
-        c = m.tally;
-        i = i + 1;
+    if is_unfit(t.len(), store.len()) {
+        return unswept();
     }
-    reply(t.len(), store.len(), c)
+    let mut c = begin();
+    let mut i = next_concerned(t, ev, 0);
+    while i < t.len() {
+        let m = step_at(t[i], c, ev, store, i, dataset);
+        t[i] = m.slot;
+        i = next_concerned(t, ev, i + 1);
+        c = m.tally;
+    }
+    done(c)
 }
 
 // The clock, as an event.

@@ -1,4 +1,2 @@
 pub mod ByValue
 pub mod Steps
-pub mod PartSweep
-pub mod SweepWalk
