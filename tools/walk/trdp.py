@@ -14,9 +14,10 @@ use Rattle.telegram.specs.declared.Family.{Family}
 use Rattle.telegram.specs.declared.Family.the-variants.{Md}
 use denote.Array.{Array}
 use Rattle.session.specs.Table.{step as mdStep, telegram as mdTelegram}
+use Rattle.packed.specs.Calls.{leftBy}
 use Rattle.packed.specs.Packed.{tablesOf as unpacked}
 use Rattle.trdp.specs.declared.MdOutcome.{MdOutcome}
-use Rattle.trdp.specs.Sessions.{mdOutcomeOf, leftBy, Arrives, Receives as MdReceives}
+use Rattle.trdp.specs.Sessions.{mdOutcomeOf, Arrives, Receives as MdReceives}
 use Rattle.trdp.proofs.Messages.{received}
 use Rattle.statistics.specs.declared.Statistics.{Statistics}
 use Rattle.arrival.specs.declared.Arrival.{Arrival}
@@ -63,7 +64,7 @@ table={
  'read_record':dict(of='subscriptions',params=[('n₁','plain','usize'),('n₂','plain','usize'),('x','plain','Subscription')],res='Reading',w='readBy (fits {n₁} {n₂}) {x}'),
  'of_reading':dict(params=[('x','plain','Reading'),K],res='Shown',w='ofReading {k} {x}',requires='isShown {x} ≡ true → {k} < 32'),
  'trdp_read':dict(root=True,params=[T,SO,K],res='Shown',told=lambda r:'Reads {k} {t} {so} (%s)'%r,hand=dict(said=lambda s,arm:'slot-reads k t so',requires=lambda s,g,n:'slot-there k t so')),
- 'arrive_md':dict(params=[TB,AR,D],res='MdOutcome',w='mdOutcomeOf (%s .answer)'%heard,last=['leftBy (%s .answer) {tb} (%s .after)'%(heard,heard)],told=lambda r,z:'Arrives {ar} {d} {tb} (%s) (%s)'%(r,z),paths=['e .answers','e .leaves'],
+ 'arrive_md':dict(params=[TB,AR,D],res='MdOutcome',w='mdOutcomeOf (%s .answer)'%heard,last=['leftBy (mdTelegram {ar} {d}) (%s .answer) (%s .after) {tb}'%(heard,heard)],told=lambda r,z:'Arrives {ar} {d} {tb} (%s) (%s)'%(r,z),paths=['e .answers','e .leaves'],
    tells=('unpacked (v′ .0) ≡ %s .after'%heard,'e .means')),
  'record':dict(of='statistics',params=[SS,('fm','plain','Family'),('o','plain','u8')],res='unit',w='tt',last=['added {fm} {o} {ss}']),
  'trdp_receive_md':dict(root=True,params=[TB,SS,AR,D],res='MdOutcome',told=lambda r,z,s:'MdReceives {ar} {d} {tb} {ss} (%s) (%s) (%s)'%(r,z,s),

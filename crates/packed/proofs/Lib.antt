@@ -1,3 +1,5 @@
 pub mod Coded
 pub mod Records
 pub mod Tables
+pub mod Places
+pub mod Left

@@ -1,10 +1,10 @@
 -- Listeners and sessions as 1280 octets that a host lends: sixteen listeners of 48, then sixteen sessions of 32. Numbers stand least significant octet first.
-use Prim.Native.Nat.{ℕ, zero, suc}
+use Prim.Native.Nat.{ℕ, zero, suc, _+_, _*_}
 use mathlib.Core.List.{List, [], _∷_, _++_, map}
 use mathlib.Core.Bool.{Bool, cond, not}
-use lib.Dec.{eqb}
+use lib.Dec.{eqb, ltb}
 use lib.ListN.{getD, take, drop}
-use Rattle.octets.specs.Octets.{little, littleOf, part}
+use Rattle.octets.specs.Octets.{little, littleOf, part, put}
 use Rattle.timing.specs.declared.Timing.{Timing}
 use Rattle.session.specs.declared.Listener.{Listener}
 use Rattle.session.specs.declared.Session.{Session}
@@ -95,3 +95,11 @@ joined f (x ∷ xs) = f x ++ joined f xs
 
 abbrev pub tablesOctets : Tables → List ℕ
 tablesOctets t = joined listenerOctets (t .listeners) ++ joined sessionOctets (t .sessions)
+
+-- ---- one record written at its place; from 16 on there is no such place
+
+abbrev pub putListener : ℕ → Listener → List ℕ → List ℕ
+putListener k l s = cond (ltb k 16) (put (k * 48) (listenerOctets l) s) s
+
+abbrev pub putSession : ℕ → Session → List ℕ → List ℕ
+putSession k x s = cond (ltb k 16) (put (768 + k * 32) (sessionOctets x) s) s

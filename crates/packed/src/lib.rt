@@ -1,4 +1,7 @@
 // Listeners and sessions as 1280 octets that a host lends: sixteen listeners of 48, then sixteen sessions of 32.
+pub mod calls;
+pub mod slots;
+
 use address::SenderRange;
 use session::Listener;
 use session::Session;

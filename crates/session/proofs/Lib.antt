@@ -4,11 +4,11 @@ pub mod Watched
 pub mod Beside
 pub mod Compared
 pub mod Answers
-mod Arrays
+pub mod Arrays
 pub mod Places
-mod Listening
+pub mod Listening
 mod Filled
-mod Searches
+pub mod Searches
 pub mod Arrived
 pub mod Values
 pub mod Received

@@ -280,7 +280,7 @@ pub fn find_listener(ls: [Listener; 16], com_id: u32, sender: u32, destination: 
 }
 
 // The lowest listener that is free.
-fn free_listener(ls: [Listener; 16]) -> Found
+pub fn free_listener(ls: [Listener; 16]) -> Found
     ensures { λ r. ⌜ r ≡ foundOf (lowest (λ l. not (l .used)) ls) ⌝ }
 {
     let mut i: usize = 0;
@@ -394,7 +394,7 @@ fn is_waiting(w: Waits, s: SessionState) -> bool
 }
 
 // A session of that identifier that can take this.
-fn can_take(x: Session, id: [u8; 16], w: Waits) -> bool
+pub fn can_take(x: Session, id: [u8; 16], w: Waits) -> bool
     ensures { λ r. ⌜ r ≡ canTake (waitsOf w) id x ⌝ }
 {
     if is_session(x, id) {
@@ -453,7 +453,7 @@ fn open(xs: [Session; 16], id: [u8; 16], state: SessionState) -> Opening
     }
 }
 
-fn owes_confirm(s: SessionState) -> bool
+pub fn owes_confirm(s: SessionState) -> bool
     ensures { λ r. ⌜ r ≡ owesConfirm s ⌝ }
 {
     match s {
@@ -465,7 +465,7 @@ fn owes_confirm(s: SessionState) -> bool
     }
 }
 
-fn is_with_user(s: SessionState) -> bool
+pub fn is_with_user(s: SessionState) -> bool
     ensures { λ r. ⌜ r ≡ isWithUser s ⌝ }
 {
     match s {
@@ -516,7 +516,7 @@ fn keep(t: Tables, k: usize, x: Session, answer: Answer) -> Told
 }
 
 // What an opening answers to a request of the user's: 17, 18.
-fn opened_as(place: Place) -> Answer
+pub fn opened_as(place: Place) -> Answer
     ensures { λ r. ⌜ meaning r ≡ placeAnswer opened (refusedPlain noFreeSession) place ⌝ }
 {
     match place {
@@ -549,7 +549,7 @@ pub fn call(t: Tables, id: [u8; 16], timeout: u32, time: u64) -> Told
 }
 
 // The session after the user's reply: with Mp it ends, with Mq it waits for a confirm.
-fn answer_as(x: Session, msg_type: u16, timeout: u32, time: u64) -> Session
+pub fn answer_as(x: Session, msg_type: u16, timeout: u32, time: u64) -> Session
     ensures { λ r. ⌜ r ≡ answered «msg_type» timeout time x ⌝ }
 {
     if msg_type == MP {
@@ -567,7 +567,7 @@ fn answer_as(x: Session, msg_type: u16, timeout: u32, time: u64) -> Session
 }
 
 // The types that a user may reply with.
-fn is_reply(msg_type: u16) -> bool
+pub fn is_reply(msg_type: u16) -> bool
     ensures { λ r. ⌜ r ≡ isReply «msg_type» ⌝ }
 {
     if msg_type == MP {
@@ -642,7 +642,7 @@ fn keep_listener(t: Tables, k: usize, l: Listener, answer: Answer) -> Told
 }
 
 // Whether a listener may be added: 11, 20, 12; 0 where it may.
-fn judge_listener(ls: [Listener; 16], com_id: u32, senders: SenderRange, uri: [u8; 32]) -> u8
+pub fn judge_listener(ls: [Listener; 16], com_id: u32, senders: SenderRange, uri: [u8; 32]) -> u8
     ensures { λ r. ⌜ r ≡ firstOf (listenChecks «com_id» senders uri ls) ⌝ }
 {
     if address::is_reversed(senders) {
@@ -719,7 +719,7 @@ fn notify(t: Tables, m: Message, destination: &[u8]) -> Told
 }
 
 // What an opening answers to an Mr that listener l hears: 17, 18 with status -4.
-fn requested_as(place: Place, l: usize) -> Answer
+pub fn requested_as(place: Place, l: usize) -> Answer
     ensures { λ r. ⌜ meaning r ≡ placeAnswer (requested l) allInUse place ⌝ }
 {
     match place {
@@ -819,7 +819,7 @@ fn follow(t: Tables, m: Message, destination: &[u8]) -> Told
 }
 
 // Both URI fields of a datagram are sound; else refusal 20.
-fn has_sound_uris(datagram: &[u8]) -> bool
+pub fn has_sound_uris(datagram: &[u8]) -> bool
     ensures { λ r. ⌜ r ≡ (sound (sourceUriOf (now (datagram .entry))) && sound (destinationUriOf (now (datagram .entry)))) ⌝ }
 {
     if md::uri::is_sound(md::source_uri(datagram)) {

@@ -2,7 +2,7 @@
 use Prim.Native.Nat.{ℕ}
 use mathlib.Core.Path.{_≡_}
 use mathlib.Core.List.{List}
-use mathlib.Core.Bool.{Bool, true, false, cond}
+use mathlib.Core.Bool.{cond}
 use lib.Dec.{ltb}
 use lib.IntN.{ℤ, pos}
 use lib.ListN.{getD, replicate}
@@ -15,7 +15,7 @@ use Rattle.session.specs.Session.{freeSession}
 use Rattle.session.specs.Table as table
 use Rattle.session.specs.Table.{Call, step, telegram, timeCheck}
 use Rattle.session.specs.declared.Session.{Session}
-use Rattle.session.specs.declared.Tables.{Tables}
+use Rattle.packed.specs.Calls.{leftBy}
 use Rattle.packed.specs.Packed.{tablesOf, tablesOctets, stateNumber, timingOf}
 use Rattle.trdp.specs.declared.Outcome.{Outcome}
 use Rattle.trdp.specs.declared.MdOutcome.{MdOutcome}
@@ -36,32 +36,11 @@ outcomeOf table.confirmed = granted 0
 outcomeOf (table.codes cs) = granted 0
 outcomeOf (table.refused r status) = refused r
 
-abbrev pub isRefused : table.Answer → Bool
-isRefused (table.listening k) = false
-isRefused table.freed = false
-isRefused (table.opened k) = false
-isRefused (table.notified l) = false
-isRefused (table.requested l k) = false
-isRefused (table.taken status k) = false
-isRefused table.replied = false
-isRefused table.confirmed = false
-isRefused (table.codes cs) = false
-isRefused (table.refused r status) = true
-
--- the octets after a call: as they were where it is refused, else those of the tables after it
-abbrev pub leftBy : table.Answer → List ℕ → Tables → List ℕ
-leftBy a octets after = cond (isRefused a) octets (tablesOctets after)
-
--- the tables after a call, kept in lent octets
-pub record Keeps (a : table.Answer) (after : Tables) (octets octets′ : List ℕ) : Type 0 where
-  pub leaves : octets′ ≡ leftBy a octets after
-  pub means : tablesOf octets′ ≡ cond (isRefused a) (tablesOf octets) after
-
 -- a user's call
 pub record Follows (c : Call) (octets : List ℕ) (r : Outcome) (octets′ : List ℕ) : Type 0 where
   pub answers : r ≡ outcomeOf (step c (tablesOf octets) .answer)
   pub means : tablesOf octets′ ≡ step c (tablesOf octets) .after
-  pub leaves : octets′ ≡ leftBy (step c (tablesOf octets) .answer) octets (step c (tablesOf octets) .after)
+  pub leaves : octets′ ≡ leftBy c (step c (tablesOf octets) .answer) (step c (tablesOf octets) .after) octets
 
 -- 0 refused, 1 notified, 2 requested, 3 taken
 abbrev pub told : ℕ → ℕ → ℤ → ℕ → ℕ → MdOutcome
@@ -84,7 +63,7 @@ mdOutcomeOf (table.refused r status) = told 0 r status 0 0
 pub record Arrives (a : Arrival) (datagram octets : List ℕ) (r : MdOutcome) (octets′ : List ℕ) : Type 0 where
   pub answers : r ≡ mdOutcomeOf (step (telegram a datagram) (tablesOf octets) .answer)
   pub means : tablesOf octets′ ≡ step (telegram a datagram) (tablesOf octets) .after
-  pub leaves : octets′ ≡ leftBy (step (telegram a datagram) (tablesOf octets) .answer) octets (step (telegram a datagram) (tablesOf octets) .after)
+  pub leaves : octets′ ≡ leftBy (telegram a datagram) (step (telegram a datagram) (tablesOf octets) .answer) (step (telegram a datagram) (tablesOf octets) .after) octets
 
 -- .. and the statistics, which count its refusal number, or 0 where it is delivered
 pub record Receives (a : Arrival) (datagram octets : List ℕ) (statistics : Statistics) (r : MdOutcome) (octets′ : List ℕ) (statistics′ : Statistics) : Type 0 where

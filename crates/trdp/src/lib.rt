@@ -10,7 +10,6 @@ use pd::PdTaken;
 use publication::Publication;
 use publication::Sent;
 use session::Session;
-use session::Tables;
 use statistics::Statistics;
 use subscription::Filter;
 use subscription::State;
@@ -511,33 +510,6 @@ fn of_told(a: session::Answer) -> Outcome
     }
 }
 
-// A call was refused.
-fn is_refused(a: session::Answer) -> bool
-    ensures { λ r. ⌜ r ≡ sessions.isRefused (session.meaning a) ⌝ }
-{
-    match a {
-        session::Answer::Listening(_) => false,
-        session::Answer::Freed => false,
-        session::Answer::Opened(_) => false,
-        session::Answer::Notified(_) => false,
-        session::Answer::Requested(_, _) => false,
-        session::Answer::Taken(_, _) => false,
-        session::Answer::Replied => false,
-        session::Answer::Confirmed => false,
-        session::Answer::Refused(_, _) => true,
-    }
-}
-
-// The tables after a call, packed; a refused call leaves the octets as they were.
-fn keep(after: Tables, a: session::Answer, tables: &mut [u8; 1280])
-    ensures { λ _. ⌜ sessions.Keeps (session.meaning a) after (now (tables .entry)) (now (tables .exit)) ⌝ }
-{
-    if is_refused(a) {
-        return;
-    }
-    packed::pack(after, tables);
-}
-
 // Adding a listener: its slot, or 11, 20, 12, 13.
 #[no_mangle]
 pub extern "C" fn trdp_listen(
@@ -548,12 +520,8 @@ pub extern "C" fn trdp_listen(
 ) -> Outcome
     ensures { λ r. ⌜ sessions.Follows (messages.listen «com_id» senders (now (uri .entry))) (now (tables .entry)) r (now (tables .exit)) ⌝ }
 {
-    let t = packed::unpack(tables);
     let u = packed::thirty_two(uri, 0);
-    let x = session::listen(t, com_id, senders, u);
-    let after = x.tables;
-    let a = x.answer;
-    keep(after, a, tables);
+    let a = packed::calls::listen(tables, com_id, senders, u);
     of_told(a)
 }
 
@@ -562,11 +530,7 @@ pub extern "C" fn trdp_listen(
 pub extern "C" fn trdp_unlisten(tables: &mut [u8; 1280], k: usize) -> Outcome
     ensures { λ r. ⌜ sessions.Follows (messages.unlisten k) (now (tables .entry)) r (now (tables .exit)) ⌝ }
 {
-    let t = packed::unpack(tables);
-    let x = session::unlisten(t, k);
-    let after = x.tables;
-    let a = x.answer;
-    keep(after, a, tables);
+    let a = packed::calls::unlisten(tables, k);
     of_told(a)
 }
 
@@ -580,12 +544,8 @@ pub extern "C" fn trdp_call(
 ) -> Outcome
     ensures { λ r. ⌜ sessions.Follows (messages.calling (now (id .entry)) timeout time) (now (tables .entry)) r (now (tables .exit)) ⌝ }
 {
-    let t = packed::unpack(tables);
     let i = octets::sixteen(id, 0);
-    let x = session::call(t, i, timeout, time);
-    let after = x.tables;
-    let a = x.answer;
-    keep(after, a, tables);
+    let a = packed::calls::call(tables, i, timeout, time);
     of_told(a)
 }
 
@@ -600,11 +560,7 @@ pub extern "C" fn trdp_reply(
 ) -> Outcome
     ensures { λ r. ⌜ sessions.Follows (messages.reply k «msg_type» timeout time) (now (tables .entry)) r (now (tables .exit)) ⌝ }
 {
-    let t = packed::unpack(tables);
-    let x = session::reply(t, k, msg_type, timeout, time);
-    let after = x.tables;
-    let a = x.answer;
-    keep(after, a, tables);
+    let a = packed::calls::reply(tables, k, msg_type, timeout, time);
     of_told(a)
 }
 
@@ -613,11 +569,7 @@ pub extern "C" fn trdp_reply(
 pub extern "C" fn trdp_confirm(tables: &mut [u8; 1280], k: usize) -> Outcome
     ensures { λ r. ⌜ sessions.Follows (messages.confirm k) (now (tables .entry)) r (now (tables .exit)) ⌝ }
 {
-    let t = packed::unpack(tables);
-    let x = session::confirm(t, k);
-    let after = x.tables;
-    let a = x.answer;
-    keep(after, a, tables);
+    let a = packed::calls::confirm(tables, k);
     of_told(a)
 }
 
@@ -656,9 +608,8 @@ pub extern "C" fn trdp_session(tables: &[u8; 1280], k: usize) -> SessionSeen
     ensures { λ r. ⌜ r ≡ sessions.sessionSeen (now (tables .entry)) k ⌝ }
 {
     if k < 16 {
-        let t = packed::unpack(tables);
-        let xs = t.sessions;
-        return of_session(xs[k]);
+        let x = packed::slots::session_at(tables, k);
+        return of_session(x);
     }
     SessionSeen {
         refusal: refusal::NO_SLOT,
@@ -701,11 +652,7 @@ fn of_received(a: session::Answer) -> MdOutcome
 fn arrive_md(tables: &mut [u8; 1280], a: Arrival, datagram: &[u8]) -> MdOutcome
     ensures { λ r. ⌜ sessions.Arrives a (now (datagram .entry)) (now (tables .entry)) r (now (tables .exit)) ⌝ }
 {
-    let t = packed::unpack(tables);
-    let x = session::arrive(t, a, datagram);
-    let after = x.tables;
-    let answer = x.answer;
-    keep(after, answer, tables);
+    let answer = packed::calls::arrive(tables, a, datagram);
     of_received(answer)
 }
 

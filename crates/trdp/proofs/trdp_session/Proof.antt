@@ -5,31 +5,17 @@ use borrow.Author.Needs.{needs}
 use Rattle.trdp.proofs.trdp_session.Statement.{statement}
 use Rattle.trdp.proofs.trdp_session.Tie as tie
 
-unpack-requires : tie.Need-unpack-requires
-unpack-requires c κs = search needs
-
-mul-of-session : tie.Need-mul-of-session
-mul-of-session c = search needs
-
-array-copy-out-of-session : tie.Need-array-copy-out-of-session
-array-copy-out-of-session c = search needs
+session-at-requires : tie.Need-session-at-requires
+session-at-requires c κs = search needs
 
 of-session-requires : tie.Need-of-session-requires
 of-session-requires c κs = search needs
 
 returns : tie.Need-returns
-returns c = session-there (c .before .before .before .before .before .args .tables .now) (c .before .before .before .before .before .args .k) _ _ _ (c .before .before .before .unpack .ensures) (c .before .before .before .before .if1 .taken) (c .of-session .ensures)
+returns c = session-there (c .before .before .before .before .args .tables .now) (c .before .before .before .before .args .k) _ _ (c .before .before .before .if1 .taken) (c .before .session-at .ensures) (c .of-session .ensures)
 
 returns-2 : tie.Need-returns-2
 returns-2 c = search (needs, tests)
 
 pub trdp-session-spec : {M : Type 1} → statement M
-trdp-session-spec =
-    tie.close
-    (tie.spec
-    unpack-requires
-    mul-of-session
-    array-copy-out-of-session
-    of-session-requires
-    returns
-    returns-2)
+trdp-session-spec = tie.close (tie.spec session-at-requires of-session-requires returns returns-2)
