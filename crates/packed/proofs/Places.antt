@@ -14,10 +14,10 @@ use Rattle.octets.specs.Octets.{part, put}
 use Rattle.octets.proofs.Parts.{put-mid}
 use Rattle.octets.proofs.Puts.{put-start}
 use Rattle.tables.proofs.Lists.{set-map}
-use Rattle.session.proofs.Arrays.{inside, outside, stored-outside}
+use Rattle.sessions.proofs.Arrays.{inside, outside, stored-outside}
 use Rattle.session.specs.declared.Listener.{Listener}
 use Rattle.session.specs.declared.Session.{Session}
-use Rattle.session.specs.declared.Tables.{Tables}
+use Rattle.sessions.specs.declared.Tables.{Tables}
 use Rattle.session.specs.Listener.{freeListener}
 use Rattle.session.specs.Session.{freeSession}
 use Rattle.packed.specs.Packed.{cut, listenerOf, sessionOf, listenersOf, sessionsOf, tablesOf, listenerOctets, sessionOctets, putListener, putSession}

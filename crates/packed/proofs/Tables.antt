@@ -6,10 +6,10 @@ use Prim.Native.Nat.{ℕ, _<_, _≤_, _^_}
 use native.Mathlib.Omega.{arith}
 use lib.ListN.{length, replicate}
 use lib.Seq.{drop-at}
-use Rattle.session.specs.Table.{emptyTables}
+use Rattle.sessions.specs.Table.{emptyTables}
 use Rattle.session.specs.declared.Listener.{Listener}
 use Rattle.session.specs.declared.Session.{Session}
-use Rattle.session.specs.declared.Tables.{Tables}
+use Rattle.sessions.specs.declared.Tables.{Tables}
 use Rattle.packed.specs.Packed.{listenerOf, sessionOf, listenersOf, sessionsOf, tablesOf, listenerOctets, sessionOctets, timingOf, joined, tablesOctets}
 use Rattle.packed.proofs.Coded.{cut-front, All, all-back}
 use Rattle.packed.proofs.Records.{listener-back, session-back}

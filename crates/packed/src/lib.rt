@@ -6,7 +6,7 @@ use address::SenderRange;
 use session::Listener;
 use session::Session;
 use session::SessionState;
-use session::Tables;
+use sessions::Tables;
 use timing::Timing;
 ghost use mathlib.Core.Path.{_≡_};
 ghost use mathlib.Core.List.{[], _∷_};

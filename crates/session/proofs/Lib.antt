@@ -1,18 +1,1 @@
-pub mod Identifiers
-pub mod Kept
-pub mod Watched
-pub mod Beside
 pub mod Compared
-pub mod Answers
-pub mod Arrays
-pub mod Places
-pub mod Listening
-mod Filled
-pub mod Searches
-pub mod Arrived
-pub mod Values
-pub mod Received
-pub mod AsArrive
-pub mod AsOutcomeOf
-pub mod History
-pub mod Refused
