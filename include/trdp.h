@@ -314,7 +314,7 @@ trdp_shown trdp_read(const trdp_subscription *slots, size_t slots_length, const 
    Listener i from 48 i on: used 1 (0 free), 3 zeros, comId 4, range start 4, end 4, URI 32. Session i from 768 + 32 i on: state 1
    (enum trdp_session_state, any other free), 3 zeros, timeout 4, start 8, identifier 16. Numbers are little endian. Octets that
    something else wrote are read by this meaning. A granted call writes the one listener or session that it changed, a time check
-   all of them; a notification and a refused call write nothing. */
+   the sessions that it frees; a notification and a refused call write nothing. */
 
 /* Adds a listener; value: its number, the lowest free one. `uri` is a field of 32 octets; an empty URI hears any destination.
    Refusals: 11, 20, 12, 13. */
