@@ -1,7 +1,7 @@
 -- Listeners and sessions as 1280 octets that a host lends: sixteen listeners of 48, then sixteen sessions of 32. Numbers stand least significant octet first.
 use Prim.Native.Nat.{ℕ, zero, suc, _+_, _*_}
 use mathlib.Core.List.{List, [], _∷_, _++_, map}
-use mathlib.Core.Bool.{Bool, cond, not}
+use mathlib.Core.Bool.{cond, not}
 use lib.Dec.{eqb, ltb}
 use lib.ListN.{getD, take, drop}
 use Rattle.octets.specs.Octets.{little, littleOf, part, put}
