@@ -4,12 +4,13 @@ use mathlib.Core.Path.{_≡_, refl, sym, ap, ap₂, subst, _∙_}
 use mathlib.Core.List.{List, [], _∷_}
 use mathlib.Core.Bool.{Bool, true, false, cond, _||_}
 use mathlib.Core.Option.{Option, none, some}
-use Prim.Native.Nat.{ℕ, _<_}
+use Prim.Native.Nat.{ℕ, _+_, _<_, _≤_}
+use native.Mathlib.Numerals.{add-one}
 use native.Mathlib.Omega.{arith}
 use lib.Dec.{ltb}
-use lib.IntN.{pos}
-use lib.ListN.{length, getD}
-use lib.Seq.{getD-set-same}
+use lib.IntN.{ℤ, pos}
+use lib.ListN.{length, getD, set}
+use lib.Seq.{getD-set-same, set-getD}
 use borrow.Author.Tests.{ltb-true}
 use Rattle.tables.specs.Lists.{any, lowest, next}
 use Rattle.tables.specs.Trace.{Outcome}
@@ -17,7 +18,7 @@ use Rattle.session.specs.Arriving as arriving
 use Rattle.session.specs.Calls as call
 use Rattle.session.specs.Calls.{foundOf, meaning, placed, placeAnswer, Opens, refusing, keeping, keepingListener}
 use Rattle.session.specs.Listener.{freeListener}
-use Rattle.session.specs.Session.{freeSession, isFree, has}
+use Rattle.session.specs.Session.{freeSession, isFree, has, isUp, expired, codeOf}
 use Rattle.session.specs.Table as table
 use Rattle.session.specs.Table.{Call, Heard}
 use Rattle.session.specs.declared.Answer.{Answer}
@@ -31,11 +32,12 @@ use Rattle.session.specs.declared.SessionState.{SessionState}
 use Rattle.session.specs.declared.SessionState.the-variants.{WaitingForReply, WithUser}
 use Rattle.session.specs.declared.Tables.{Tables}
 use Rattle.session.specs.declared.Told.{Told}
-use Rattle.session.proofs.Answers.{called}
+use Rattle.session.proofs.Answers.{called, checked}
 use Rattle.session.proofs.Arrived.{requests as requested}
+use Rattle.session.proofs.Filled.{filled, filled-more, filled-next, filled-all}
 use Rattle.session.proofs.Places.{in-use, full, slot}
 use Rattle.packed.specs.Packed.{tablesOf, putListener, putSession}
-use Rattle.packed.specs.Calls.{isFound, withListener, withSession, leftBy, told, Follows, Gives, Places, placedIn}
+use Rattle.packed.specs.Calls.{isFound, withListener, withSession, leftBy, told, Follows, Gives, Places, placedIn, expiredAt, expiredIn, Expires, Checks}
 use Rattle.packed.proofs.Places.{PutsSession, PutsListener, sessions-long, listeners-long}
 
 -- ---- a record in its slot
@@ -168,3 +170,59 @@ refused c o n f = follows o o (Refused n (pos 0)) c f refl
 pub gave : (c : Call) (o o′ : List ℕ) (a : Answer) (q : Outcome table.Answer (List Session)) → Gives o q a o′ → call.Follows c (tablesOf o) (told o′ a) → Follows c o a o′
 gave c o o′ a q g f =
     follows o o′ a c f (g .leaves c ∙ sym (ap₂ (λ (x : table.Answer) (t : Tables). leftBy c x t o) (g .does .answers) (g .does .leaves)))
+
+-- ---- a time check
+
+module _ (time k : ℕ) (o : List ℕ) where
+  pub expires-up : (o′ : List ℕ) (y : Session) → isUp time (getD (tablesOf o .sessions) k freeSession .state) ≡ true → y ≡ freeSession → PutsSession k y o o′ → Expires time k o o′
+  expires-up o′ y e f p = record { writes = p .written ∙ rw (e, f) refl; means = p .means ∙ rw (e, f) refl }
+
+  pub expires-not : isUp time (getD (tablesOf o .sessions) k freeSession .state) ≡ false → Expires time k o o
+  expires-not e = record { writes = rw e refl; means = rw (e, set-getD (tablesOf o .sessions) k freeSession) refl }
+
+-- below i the sessions and codes are those after the check, from i on the sessions are as they were
+pub record Turned (time : ℕ) (o₀ : List ℕ) (codes₀ : List ℤ) (o : List ℕ) (codes : List ℤ) (i : ℕ) : Type 0 where
+  pub written : o ≡ expiredIn time i o₀
+  pub listeners : tablesOf o .listeners ≡ tablesOf o₀ .listeners
+  pub sessions : tablesOf o .sessions ≡ filled (expired time) (tablesOf o₀ .sessions) (tablesOf o₀ .sessions) i
+  pub coded : codes ≡ filled (λ x. codeOf time (x .state)) (tablesOf o₀ .sessions) codes₀ i
+
+module _ (time : ℕ) (o₀ : List ℕ) (codes₀ : List ℤ) (long : length codes₀ ≡ 16) where
+  xs : List Session
+  xs = tablesOf o₀ .sessions
+
+  pub turned-none : Turned time o₀ codes₀ o₀ codes₀ 0
+  unfolding expiredIn
+  turned-none = record { written = refl; listeners = refl; sessions = refl; coded = refl }
+
+  pub turned-more : (o o′ : List ℕ) (codes : List ℤ) (i : ℕ) (code : ℤ) → i < 16 → Turned time o₀ codes₀ o codes i
+      → code ≡ codeOf time (getD (tablesOf o .sessions) i freeSession .state) → Expires time i o o′ → Turned time o₀ codes₀ o′ (set codes i code) (i + 1)
+  unfolding expiredIn xs
+  turned-more o o′ codes i code h t c e =
+      let n = sessions-long o₀ in
+      let m : i < length xs = omega (arith, n) in
+      let g : getD (tablesOf o .sessions) i freeSession ≡ getD xs i freeSession =
+      ap (λ (x : List Session). getD x i freeSession) (t .sessions) ∙ filled-next (expired time) xs xs i freeSession m m in
+      record {
+        written = e .writes ∙ ap (expiredAt time i) (t .written) ∙ ap (λ (j : ℕ). expiredIn time j o₀) (sym (add-one i));
+        listeners = ap (λ (x : Tables). x .listeners) (e .means) ∙ t .listeners;
+        sessions =
+            ap (λ (x : Tables). x .sessions) (e .means) ∙ ap₂ (λ (x : List Session) (y : Session). set x i (expired time y)) (t .sessions) g
+            ∙ filled-more (expired time) xs xs i freeSession freeSession m m;
+        coded =
+            ap₂ (λ (x : List ℤ) (y : ℤ). set x i y) (t .coded) (c ∙ ap (λ (x : Session). codeOf time (x .state)) g)
+            ∙ filled-more (λ (x : Session). codeOf time (x .state)) xs codes₀ i freeSession (pos 0) m (omega (arith, long));
+      }
+
+  pub turned-all : (o : List ℕ) (codes : List ℤ) (i : ℕ) → i ≤ 16 → 16 ≤ i → Turned time o₀ codes₀ o codes i → Checks time o₀ codes o
+  unfolding xs
+  turned-all o codes i u v t =
+      let n = sessions-long o₀ in
+      let h : length xs ≤ i = omega (arith, n) in
+      let j : i ≡ 16 = omega arith in
+      let s = t .sessions ∙ filled-all (expired time) xs xs i h h in
+      let d = t .coded ∙ filled-all (λ (x : Session). codeOf time (x .state)) xs codes₀ i h (omega (arith, long)) in
+      record {
+        does = subst (λ (ls : List Listener). call.Checks time (tablesOf o₀) (record { tables = record { listeners = ls; sessions = tablesOf o .sessions }; codes = codes })) (sym (t .listeners)) (checked time (tablesOf o₀) (tablesOf o .sessions) codes s d);
+        leaves = t .written ∙ ap (λ (k : ℕ). expiredIn time k o₀) j;
+      }

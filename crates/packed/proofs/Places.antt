@@ -2,25 +2,20 @@
 -- Assumes nothing.
 use mathlib.Core.Path.{_≡_, refl, sym, ap, ap₂, _∙_}
 use mathlib.Core.List.{List, [], _∷_, _++_, map, append-assoc}
-use mathlib.Core.Bool.{true, false, cond}
 use Prim.Native.Nat.{ℕ, zero, suc, _+_, _-_, _*_, _<_, _≤_}
 use native.Mathlib.Nat.{suc-mul, zero-mul, add-comm}
 use native.Mathlib.Omega.{arith}
-use lib.Dec.{ltb}
 use lib.ListN.{length, getD, set, take, drop, length-append, length-drop, take-append-drop, List·getD-map, length-map}
-use lib.Seq.{take-at, drop-at, take-add, drop-drop, length-take-le, drop-append-add, set-out}
+use lib.Seq.{take-at, drop-at, take-add, drop-drop, length-take-le, drop-append-add}
 use borrow.Author.Tests.{lt-ltb, le-ltb}
-use Rattle.octets.specs.Octets.{part, put}
+use Rattle.octets.specs.Octets.{put}
 use Rattle.octets.proofs.Parts.{put-mid}
 use Rattle.octets.proofs.Puts.{put-start}
 use Rattle.tables.proofs.Lists.{set-map}
-use Rattle.session.proofs.Arrays.{inside, outside, stored-outside}
+use Rattle.session.proofs.Arrays.{inside, stored-outside}
 use Rattle.session.specs.declared.Listener.{Listener}
 use Rattle.session.specs.declared.Session.{Session}
-use Rattle.session.specs.declared.Tables.{Tables}
-use Rattle.session.specs.Listener.{freeListener}
-use Rattle.session.specs.Session.{freeSession}
-use Rattle.packed.specs.Packed.{cut, listenerOf, sessionOf, listenersOf, sessionsOf, tablesOf, listenerOctets, sessionOctets, putListener, putSession}
+use Rattle.packed.specs.Packed.{cut, listenerOf, sessionOf, sessionsOf, tablesOf, listenerOctets, sessionOctets, putListener, putSession}
 use Rattle.packed.proofs.Coded.{length-cut, cut-at, cut-front}
 
 -- ---- over any record

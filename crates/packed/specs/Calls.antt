@@ -1,15 +1,16 @@
 -- The calls on listeners and sessions over the 1280 octets that a host lends: each answers what the rules say, and writes the one record that it changed.
-use Prim.Native.Nat.{ℕ}
+use Prim.Native.Nat.{ℕ, zero, suc}
 use mathlib.Core.Path.{_≡_}
-use mathlib.Core.Bool.{Bool, true, false}
+use mathlib.Core.Bool.{Bool, true, false, cond}
 use mathlib.Core.List.{List}
-use lib.ListN.{getD}
+use lib.IntN.{ℤ}
+use lib.ListN.{getD, set}
 use Rattle.tables.specs.Trace.{Outcome}
 use Rattle.session.specs.Arriving as arriving
 use Rattle.session.specs.Calls as calls
 use Rattle.session.specs.Calls.{waitsOf}
 use Rattle.session.specs.Listener.{freeListener}
-use Rattle.session.specs.Session.{freeSession, isFree, has}
+use Rattle.session.specs.Session.{freeSession, isFree, has, isUp, expired}
 use Rattle.session.specs.Table as table
 use Rattle.session.specs.Table.{Call, listen, unlisten, calling, telegram, reply, confirm, timeCheck, canTake, step}
 use Rattle.session.specs.declared.Answer.{Answer}
@@ -23,7 +24,7 @@ use Rattle.session.specs.declared.Tables.{Tables}
 use Rattle.session.specs.declared.Told.{Told}
 use Rattle.packed.specs.declared.slots.Sought.{Sought}
 use Rattle.packed.specs.declared.slots.Sought.the-variants.{Vacant, InUse, Waiting}
-use Rattle.packed.specs.Packed.{tablesOf, tablesOctets, putListener, putSession}
+use Rattle.packed.specs.Packed.{tablesOf, putListener, putSession}
 
 -- what a session is sought for: it is free; it is in use with an identifier; it can take what comes with one
 abbrev pub soughtBy : Sought → List ℕ → Session → Bool
@@ -52,7 +53,26 @@ withListener k after octets = putListener k (getD (after .listeners) k freeListe
 abbrev pub withSession : ℕ → Tables → List ℕ → List ℕ
 withSession k after octets = putSession k (getD (after .sessions) k freeSession) octets
 
--- the octets after call c: one record is written, in the slot that the answer or the call names; a notification and a refusal write nothing; a time check writes all
+-- session k is written, free, where its time is up; else its octets stay
+abbrev pub expiredAt : ℕ → ℕ → List ℕ → List ℕ
+expiredAt time k octets = cond (isUp time (getD (tablesOf octets .sessions) k freeSession .state)) (putSession k freeSession octets) octets
+
+-- the first n sessions, one after the other
+unfoldable pub expiredIn : ℕ → ℕ → List ℕ → List ℕ
+expiredIn time zero octets = octets
+expiredIn time (suc n) octets = expiredAt time n (expiredIn time n octets)
+
+-- the time of a time check
+abbrev pub timeOf : Call → ℕ
+timeOf (listen comId senders u) = 0
+timeOf (unlisten k) = 0
+timeOf (calling id timeout time) = 0
+timeOf (telegram a d) = 0
+timeOf (reply k type timeout time) = 0
+timeOf (confirm k) = 0
+timeOf (timeCheck time) = time
+
+-- the octets after call c: one record is written, in the slot that the answer or the call names; a notification and a refusal write nothing; a time check writes the sessions that it freed
 abbrev pub leftBy : Call → table.Answer → Tables → List ℕ → List ℕ
 leftBy c (table.listening k) after octets = withListener k after octets
 leftBy c table.freed after octets = withListener (named c) after octets
@@ -62,7 +82,7 @@ leftBy c (table.requested l k) after octets = withSession k after octets
 leftBy c (table.taken status k) after octets = withSession k after octets
 leftBy c table.replied after octets = withSession (named c) after octets
 leftBy c table.confirmed after octets = withSession (named c) after octets
-leftBy c (table.codes cs) after octets = tablesOctets after
+leftBy c (table.codes cs) after octets = expiredIn (timeOf c) 16 octets
 leftBy c (table.refused r status) after octets = octets
 
 -- the tables that octets mean, with an answer
@@ -89,3 +109,13 @@ pub record Places (id : List ℕ) (state : SessionState) (octets : List ℕ) (p 
   pub opens : calls.Opens id state (tablesOf octets .sessions) (record { sessions = tablesOf octets′ .sessions; place = p })
   pub listeners : tablesOf octets′ .listeners ≡ tablesOf octets .listeners
   pub writes : octets′ ≡ placedIn p (record { id = id; state = state }) octets
+
+-- one session's time looked at
+pub record Expires (time k : ℕ) (octets octets′ : List ℕ) : Type 0 where
+  pub writes : octets′ ≡ expiredAt time k octets
+  pub means : tablesOf octets′ ≡ record { listeners = tablesOf octets .listeners; sessions = set (tablesOf octets .sessions) k (expired time (getD (tablesOf octets .sessions) k freeSession)) }
+
+-- a time check over lent octets: the codes are its answer
+pub record Checks (time : ℕ) (octets : List ℕ) (codes : List ℤ) (octets′ : List ℕ) : Type 0 where
+  pub does : calls.Checks time (tablesOf octets) (record { tables = tablesOf octets′; codes = codes })
+  pub leaves : octets′ ≡ expiredIn time 16 octets

@@ -19,7 +19,7 @@ ghost use Rattle.session.specs.Session.{waitsForReply};
 ghost use Rattle.session.specs.Calls.{waitsOf};
 ghost use Rattle.session.specs.Arriving.{heardBy, byIdentifier};
 ghost use Rattle.packed.specs.Packed.{tablesOf};
-ghost use Rattle.packed.specs.Calls.{Follows, Gives};
+ghost use Rattle.packed.specs.Calls.{Follows, Gives, Expires, Checks};
 
 // Adds a listener: 11, 20, 12, 13; else the lowest free slot.
 pub fn listen(octets: &mut [u8], com_id: u32, senders: SenderRange, uri: [u8; 32]) -> Answer
@@ -230,4 +230,34 @@ pub fn arrive(octets: &mut [u8], a: Arrival, datagram: &[u8]) -> Answer
         return Answer::Refused(refusal::URI, 0);
     }
     Answer::Refused(refusal::TOPOGRAPHY, 0)
+}
+
+// Session k is freed where its time is up; else its octets stay.
+fn expire(octets: &mut [u8], k: usize, time: u64)
+    requires { ⌜ length (now octets) ≡ 1280 ⌝ }
+    ensures { λ _. ⌜ Expires time k (now (octets .entry)) (now (octets .exit)) ⌝ }
+{
+    let x = crate::slots::session_at(octets, k);
+    let s = x.state;
+    if session::is_up(s, time) {
+        let none = session::no_session();
+        crate::slots::put_session(octets, k, none);
+    }
+}
+
+// Frees every session whose time is up, and answers a code for each slot.
+pub fn time_check(octets: &mut [u8], time: u64) -> [i32; 16]
+    requires { ⌜ length (now octets) ≡ 1280 ⌝ }
+    ensures { λ r. ⌜ Checks time (now (octets .entry)) r (now (octets .exit)) ⌝ }
+{
+    let mut codes = [0i32; 16];
+    let mut i: usize = 0;
+    while i < 16 {
+        let x = crate::slots::session_at(octets, i);
+        let s = x.state;
+        codes[i] = session::code_of(s, time);
+        expire(octets, i, time);
+        i += 1;
+    }
+    codes
 }

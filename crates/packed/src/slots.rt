@@ -54,9 +54,9 @@ pub fn put_session(octets: &mut [u8], k: usize, x: Session)
     ensures means { λ _. ⌜ tablesOf (now (octets .exit)) ≡ record { listeners = tablesOf (now (octets .entry)) .listeners; sessions = set (tablesOf (now (octets .entry)) .sessions) k x } ⌝ }
 {
     if k < 16 {
-        let a = 768 + k * 32;
-        let e = a + 32;
-        crate::pack_session(x, &mut octets[a..e]);
+        let first = 768 + k * 32;
+        let behind = first + 32;
+        crate::pack_session(x, &mut octets[first..behind]);
     }
 }
 
@@ -67,9 +67,9 @@ pub fn put_listener(octets: &mut [u8], k: usize, l: Listener)
     ensures means { λ _. ⌜ tablesOf (now (octets .exit)) ≡ record { listeners = set (tablesOf (now (octets .entry)) .listeners) k l; sessions = tablesOf (now (octets .entry)) .sessions } ⌝ }
 {
     if k < 16 {
-        let a = k * 48;
-        let e = a + 48;
-        crate::pack_listener(l, &mut octets[a..e]);
+        let first = k * 48;
+        let behind = first + 48;
+        crate::pack_listener(l, &mut octets[first..behind]);
     }
 }
 

@@ -39,7 +39,6 @@ ghost use Rattle.subscriptions.specs.declared.Reading.the-variants as reading;
 ghost use Rattle.trdp.specs.Subscriptions.{outcomeOf, Follows, Receives, stateNumber, ofReading, isShown, Reads};
 ghost use Rattle.session.specs.Calls as session;
 ghost use Rattle.session.specs.Table as messages;
-ghost use Rattle.packed.specs.Packed.{tablesOf, tablesOctets};
 ghost use Rattle.trdp.specs.Sessions as sessions;
 ghost use Rattle.trdp.specs.Wire.{noCommon, noPdHeader, noMdHeader, noMdDatagram, ofWritten, ofConverted, ofPdTaken, ofMdTaken, ofSent, Writes, SendsOut, ConvertsTo};
 
@@ -578,11 +577,7 @@ pub extern "C" fn trdp_confirm(tables: &mut [u8; 1280], k: usize) -> Outcome
 pub extern "C" fn trdp_check_sessions(tables: &mut [u8; 1280], time: u64) -> Codes
     ensures { λ r. ⌜ sessions.Checks time (now (tables .entry)) r (now (tables .exit)) ⌝ }
 {
-    let t = packed::unpack(tables);
-    let x = session::time_check(t, time);
-    let after = x.tables;
-    let codes = x.codes;
-    packed::pack(after, tables);
+    let codes = packed::calls::time_check(tables, time);
     Codes { codes: codes }
 }
 

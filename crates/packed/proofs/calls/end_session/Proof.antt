@@ -1,12 +1,12 @@
 -- The session that was found is written, or none was found.
-use mathlib.Core.Path.{refl, sym, ap, _∙_}
+use mathlib.Core.Path.{refl, sym, _∙_}
 use mir.Facts.{toZ-ofZ}
 use mir.Val.{ofZ, toZ}
 use mir.Syntax.{w32}
 use Rattle.tables.specs.Lists.{lowest}
 use Rattle.session.proofs.Arrived.{untaken, takes}
 use Rattle.session.specs.Calls.{waitsOf}
-use Rattle.session.specs.Table.{canTake, takenAt, ended, owing}
+use Rattle.session.specs.Table.{canTake, takenAt, ended}
 use Rattle.session.specs.declared.Session.{Session}
 use Rattle.packed.specs.Packed.{tablesOf}
 use Rattle.packed.proofs.Left.{gives, keeps-session, wrote-session}

@@ -8,7 +8,7 @@ use Rattle.session.proofs.Arrived.{untaken, takes}
 use Rattle.session.specs.Arriving.{byIdentifier}
 use Rattle.session.specs.Session.{waitsForReply}
 use Rattle.session.specs.declared.SessionState.the-variants.{OwingConfirm}
-use Rattle.session.specs.Table.{canTake, takenAt, ended, owing}
+use Rattle.session.specs.Table.{canTake, takenAt, owing}
 use Rattle.session.specs.declared.Session.{Session}
 use Rattle.packed.specs.Packed.{tablesOf}
 use Rattle.packed.proofs.Left.{gives, keeps-session, wrote-session}

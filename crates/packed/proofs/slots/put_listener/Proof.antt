@@ -5,11 +5,11 @@ use borrow.Author.Needs.{needs}
 use Rattle.packed.proofs.slots.put_listener.Statement.{statement}
 use Rattle.packed.proofs.slots.put_listener.Tie as tie
 
-mul-a : tie.Need-mul-a
-mul-a c = search needs
+mul-first : tie.Need-mul-first
+mul-first c = search needs
 
-add-e : tie.Need-add-e
-add-e c = search needs
+add-behind : tie.Need-add-behind
+add-behind c = search needs
 
 sub-pack-listener : tie.Need-sub-pack-listener
 sub-pack-listener c = search needs
@@ -43,8 +43,8 @@ pub put-listener-spec : {M : Type 1} → statement M
 put-listener-spec =
     tie.close
     (tie.spec
-    mul-a
-    add-e
+    mul-first
+    add-behind
     sub-pack-listener
     part-pack-listener-start
     part-pack-listener-end

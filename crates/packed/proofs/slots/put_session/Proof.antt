@@ -5,14 +5,14 @@ use borrow.Author.Needs.{needs}
 use Rattle.packed.proofs.slots.put_session.Statement.{statement}
 use Rattle.packed.proofs.slots.put_session.Tie as tie
 
-mul-a : tie.Need-mul-a
-mul-a c = search needs
+mul-first : tie.Need-mul-first
+mul-first c = search needs
 
-add-a : tie.Need-add-a
-add-a c = search needs
+add-first : tie.Need-add-first
+add-first c = search needs
 
-add-e : tie.Need-add-e
-add-e c = search needs
+add-behind : tie.Need-add-behind
+add-behind c = search needs
 
 sub-pack-session : tie.Need-sub-pack-session
 sub-pack-session c = search needs
@@ -46,9 +46,9 @@ pub put-session-spec : {M : Type 1} → statement M
 put-session-spec =
     tie.close
     (tie.spec
-    mul-a
-    add-a
-    add-e
+    mul-first
+    add-first
+    add-behind
     sub-pack-session
     part-pack-session-start
     part-pack-session-end
