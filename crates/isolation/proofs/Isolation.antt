@@ -18,13 +18,13 @@ use Rattle.subscription.proofs.Watched as slot-watch
 use Rattle.subscription.proofs.Lent.{fits-means}
 use Rattle.subscription.proofs.Beside as slots-beside
 use Rattle.session.specs.Session.{freeSession}
-use Rattle.session.specs.Table as md
-use Rattle.session.specs.Alone as session
-use Rattle.session.specs.Beside as sessions
-use Rattle.session.specs.Beside.{Slots}
-use Rattle.session.specs.declared.Tables.{Tables}
-use Rattle.session.proofs.Watched as session-watch
-use Rattle.session.proofs.Beside as sessions-beside
+use Rattle.sessions.specs.Table as md
+use Rattle.isolation.specs.Alone as session
+use Rattle.isolation.specs.Beside as sessions
+use Rattle.isolation.specs.Beside.{Slots}
+use Rattle.sessions.specs.declared.Tables.{Tables}
+use Rattle.isolation.proofs.Watched as session-watch
+use Rattle.isolation.proofs.Beside as sessions-beside
 use Rattle.isolation.specs.Isolation.{Call, process, message, processed, Both, both, Stack, step, empty, processCall, messageCall, ofProcess, ofMessages, SlotAlone, SessionAlone, seenBy, sideBySide, Isolation}
 
 process-stands : Stands ofProcess step pd.step

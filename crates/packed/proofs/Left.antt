@@ -14,28 +14,28 @@ use lib.Seq.{getD-set-same, set-getD}
 use borrow.Author.Tests.{ltb-true}
 use Rattle.tables.specs.Lists.{any, lowest, next}
 use Rattle.tables.specs.Trace.{Outcome}
-use Rattle.session.specs.Arriving as arriving
-use Rattle.session.specs.Calls as call
-use Rattle.session.specs.Calls.{foundOf, meaning, placed, placeAnswer, Opens, refusing, keeping, keepingListener}
+use Rattle.sessions.specs.Arriving as arriving
+use Rattle.sessions.specs.Calls as call
+use Rattle.sessions.specs.Calls.{foundOf, meaning, placed, placeAnswer, Opens, refusing, keeping, keepingListener}
 use Rattle.session.specs.Listener.{freeListener}
 use Rattle.session.specs.Session.{freeSession, isFree, has, isUp, expired, codeOf}
-use Rattle.session.specs.Table as table
-use Rattle.session.specs.Table.{Call, Heard}
-use Rattle.session.specs.declared.Answer.{Answer}
-use Rattle.session.specs.declared.Answer.the-variants.{Refused}
-use Rattle.session.specs.declared.Found.the-variants.{At}
+use Rattle.sessions.specs.Table as table
+use Rattle.sessions.specs.Table.{Call, Heard}
+use Rattle.sessions.specs.declared.Answer.{Answer}
+use Rattle.sessions.specs.declared.Answer.the-variants.{Refused}
+use Rattle.sessions.specs.declared.Found.the-variants.{At}
 use Rattle.session.specs.declared.Listener.{Listener}
-use Rattle.session.specs.declared.Place.{Place}
-use Rattle.session.specs.declared.Place.the-variants as place
+use Rattle.sessions.specs.declared.Place.{Place}
+use Rattle.sessions.specs.declared.Place.the-variants as place
 use Rattle.session.specs.declared.Session.{Session}
 use Rattle.session.specs.declared.SessionState.{SessionState}
 use Rattle.session.specs.declared.SessionState.the-variants.{WaitingForReply, WithUser}
-use Rattle.session.specs.declared.Tables.{Tables}
-use Rattle.session.specs.declared.Told.{Told}
-use Rattle.session.proofs.Answers.{called, checked}
-use Rattle.session.proofs.Arrived.{requests as requested}
-use Rattle.session.proofs.Filled.{filled, filled-more, filled-next, filled-all}
-use Rattle.session.proofs.Places.{in-use, full, slot}
+use Rattle.sessions.specs.declared.Tables.{Tables}
+use Rattle.sessions.specs.declared.Told.{Told}
+use Rattle.sessions.proofs.Answers.{called, checked}
+use Rattle.sessions.proofs.Arrived.{requests as requested}
+use Rattle.sessions.proofs.Filled.{filled, filled-more, filled-next, filled-all}
+use Rattle.sessions.proofs.Places.{in-use, full, slot}
 use Rattle.packed.specs.Packed.{tablesOf, putListener, putSession}
 use Rattle.packed.specs.Calls.{isFound, withListener, withSession, leftBy, told, Follows, Gives, Places, placedIn, expiredAt, expiredIn, Expires, Checks}
 use Rattle.packed.proofs.Places.{PutsSession, PutsListener, sessions-long, listeners-long}

@@ -12,7 +12,7 @@ use Rattle.octets.specs.Octets.{put}
 use Rattle.octets.proofs.Parts.{put-mid}
 use Rattle.octets.proofs.Puts.{put-start}
 use Rattle.tables.proofs.Lists.{set-map}
-use Rattle.session.proofs.Arrays.{inside, stored-outside}
+use Rattle.sessions.proofs.Arrays.{inside, stored-outside}
 use Rattle.session.specs.declared.Listener.{Listener}
 use Rattle.session.specs.declared.Session.{Session}
 use Rattle.packed.specs.Packed.{cut, listenerOf, sessionOf, sessionsOf, tablesOf, listenerOctets, sessionOctets, putListener, putSession}

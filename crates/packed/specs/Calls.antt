@@ -6,22 +6,23 @@ use mathlib.Core.List.{List}
 use lib.IntN.{ℤ}
 use lib.ListN.{getD, set}
 use Rattle.tables.specs.Trace.{Outcome}
-use Rattle.session.specs.Arriving as arriving
-use Rattle.session.specs.Calls as calls
-use Rattle.session.specs.Calls.{waitsOf}
+use Rattle.sessions.specs.Arriving as arriving
+use Rattle.sessions.specs.Calls as calls
+use Rattle.session.specs.Session.{waitsOf}
 use Rattle.session.specs.Listener.{freeListener}
 use Rattle.session.specs.Session.{freeSession, isFree, has, isUp, expired}
-use Rattle.session.specs.Table as table
-use Rattle.session.specs.Table.{Call, listen, unlisten, calling, telegram, reply, confirm, timeCheck, canTake, step}
-use Rattle.session.specs.declared.Answer.{Answer}
-use Rattle.session.specs.declared.Found.{Found}
-use Rattle.session.specs.declared.Found.the-variants.{At, Nothing}
-use Rattle.session.specs.declared.Place.{Place}
-use Rattle.session.specs.declared.Place.the-variants as place
+use Rattle.sessions.specs.Table as table
+use Rattle.session.specs.Session.{canTake}
+use Rattle.sessions.specs.Table.{Call, listen, unlisten, calling, telegram, reply, confirm, timeCheck, step}
+use Rattle.sessions.specs.declared.Answer.{Answer}
+use Rattle.sessions.specs.declared.Found.{Found}
+use Rattle.sessions.specs.declared.Found.the-variants.{At, Nothing}
+use Rattle.sessions.specs.declared.Place.{Place}
+use Rattle.sessions.specs.declared.Place.the-variants as place
 use Rattle.session.specs.declared.Session.{Session}
 use Rattle.session.specs.declared.SessionState.{SessionState}
-use Rattle.session.specs.declared.Tables.{Tables}
-use Rattle.session.specs.declared.Told.{Told}
+use Rattle.sessions.specs.declared.Tables.{Tables}
+use Rattle.sessions.specs.declared.Told.{Told}
 use Rattle.packed.specs.declared.slots.Sought.{Sought}
 use Rattle.packed.specs.declared.slots.Sought.the-variants.{Vacant, InUse, Waiting}
 use Rattle.packed.specs.Packed.{tablesOf, putListener, putSession}

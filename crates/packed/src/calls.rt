@@ -3,21 +3,21 @@ use crate::slots::Sought;
 use address::SenderRange;
 use arrival::Arrival;
 use md::MdTaken;
-use session::Answer;
-use session::Found;
 use session::Listener;
-use session::Message;
 use session::Session;
 use session::SessionState;
 use session::Waits;
+use sessions::Answer;
+use sessions::Found;
+use sessions::Message;
 use timing::Timing;
 ghost use mathlib.Core.Path.{_≡_};
 ghost use lib.ListN.{length};
-ghost use Rattle.session.specs.Table as table;
-ghost use Rattle.session.specs.Table.{hearing, notifying, requesting, taking, ended, owing, arriving, kindOf};
+ghost use Rattle.sessions.specs.Table as table;
+ghost use Rattle.sessions.specs.Table.{hearing, notifying, requesting, taking, ended, owing, arriving, kindOf};
 ghost use Rattle.session.specs.Session.{waitsForReply};
-ghost use Rattle.session.specs.Calls.{waitsOf};
-ghost use Rattle.session.specs.Arriving.{heardBy, byIdentifier};
+ghost use Rattle.session.specs.Session.{waitsOf};
+ghost use Rattle.sessions.specs.Arriving.{heardBy, byIdentifier};
 ghost use Rattle.packed.specs.Packed.{tablesOf};
 ghost use Rattle.packed.specs.Calls.{Follows, Gives, Expires, Checks};
 
@@ -27,11 +27,11 @@ pub fn listen(octets: &mut [u8], com_id: u32, senders: SenderRange, uri: [u8; 32
     ensures { λ r. ⌜ Follows (table.listen «com_id» senders uri) (now (octets .entry)) r (now (octets .exit)) ⌝ }
 {
     let ls = crate::unpack_listeners(octets);
-    let n = session::judge_listener(ls, com_id, senders, uri);
+    let n = sessions::judge_listener(ls, com_id, senders, uri);
     if n != 0 {
         return Answer::Refused(n, 0);
     }
-    let f = session::free_listener(ls);
+    let f = sessions::free_listener(ls);
     let Found::At(k) = f else {
         return Answer::Refused(refusal::NO_FREE_SLOT, 0);
     };
@@ -69,7 +69,7 @@ pub fn call(octets: &mut [u8], id: [u8; 16], timeout: u32, time: u64) -> Answer
         timeout: timeout,
     };
     let place = crate::slots::open(octets, id, SessionState::WaitingForReply(waits));
-    session::opened_as(place)
+    sessions::opened_as(place)
 }
 
 // The user's reply to the session of a slot: 5, 10, 19.
@@ -138,7 +138,7 @@ fn request(octets: &mut [u8], m: Message, destination: &[u8]) -> Answer
     };
     let id = m.id;
     let place = crate::slots::open(octets, id, SessionState::WithUser(waits));
-    session::requested_as(place, l)
+    sessions::requested_as(place, l)
 }
 
 // Mp, Me and Mc: 19, else the session is freed.
@@ -214,7 +214,7 @@ pub fn arrive(octets: &mut [u8], a: Arrival, datagram: &[u8]) -> Answer
     };
     let c = h.common;
     if arrival::is_local(c, a) {
-        if session::has_sound_uris(datagram) {
+        if sessions::has_sound_uris(datagram) {
             let id = md::session_id(datagram);
             let m = Message {
                 msg_type: c.msg_type,

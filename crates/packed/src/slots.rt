@@ -1,14 +1,14 @@
 // One listener or one session of the octets: read, written, and sought, with no other unpacked or written.
-use session::Found;
 use session::Listener;
-use session::Place;
 use session::Session;
 use session::SessionState;
 use session::Waits;
+use sessions::Found;
+use sessions::Place;
 ghost use mathlib.Core.Path.{_≡_};
 ghost use lib.ListN.{length, getD, set};
 ghost use Rattle.tables.specs.Lists.{lowest};
-ghost use Rattle.session.specs.Calls.{foundOf};
+ghost use Rattle.sessions.specs.Calls.{foundOf};
 ghost use Rattle.session.specs.Listener.{freeListener, hears};
 ghost use Rattle.session.specs.Session.{freeSession, isFree};
 ghost use Rattle.packed.specs.Packed.{tablesOf, putListener, putSession};

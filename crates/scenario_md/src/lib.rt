@@ -4,8 +4,8 @@ pub mod show;
 use address::SenderRange;
 use arrival::Arrival;
 use line::answer;
-use session::Tables;
-use session::Told;
+use sessions::Tables;
+use sessions::Told;
 use statistics::Statistics;
 use topography::TopoCounts;
 ghost use mathlib.Core.Path.{_≡_};
@@ -72,7 +72,7 @@ fn listen(t: Tables, s: &[u8], out: &mut [u8], at: usize) -> Called
             start: line::word(start),
             end: line::word(end),
         };
-        let told = session::listen(t, line::word(com_id), senders, uri);
+        let told = sessions::listen(t, line::word(com_id), senders, uri);
         return tell(told, out, at);
     }
     bad(t)
@@ -84,7 +84,7 @@ fn unlisten(t: Tables, s: &[u8], out: &mut [u8], at: usize) -> Called
 {
     let k = line::number(s, line::behind(8), 8);
     if line::is_end(s, k) {
-        let told = session::unlisten(t, line::word(k) as usize);
+        let told = sessions::unlisten(t, line::word(k) as usize);
         return tell(told, out, at);
     }
     bad(t)
@@ -99,7 +99,7 @@ fn call(t: Tables, s: &[u8], out: &mut [u8], at: usize) -> Called
     let timeout = line::number(s, field, 8);
     let time = line::number(s, timeout, 16);
     if line::is_end(s, time) {
-        let told = session::call(t, id, line::word(timeout), time.value);
+        let told = sessions::call(t, id, line::word(timeout), time.value);
         return tell(told, out, at);
     }
     bad(t)
@@ -114,7 +114,7 @@ fn reply(t: Tables, s: &[u8], out: &mut [u8], at: usize) -> Called
     let timeout = line::number(s, kind, 8);
     let time = line::number(s, timeout, 16);
     if line::is_end(s, time) {
-        let told = session::reply(
+        let told = sessions::reply(
             t,
             line::word(k) as usize,
             line::half(kind),
@@ -133,7 +133,7 @@ fn confirm(t: Tables, s: &[u8], out: &mut [u8], at: usize) -> Called
     let k = line::number(s, line::behind(7), 8);
     let time = line::number(s, k, 16);
     if line::is_end(s, time) {
-        let told = session::confirm(t, line::word(k) as usize);
+        let told = sessions::confirm(t, line::word(k) as usize);
         return tell(told, out, at);
     }
     bad(t)
@@ -145,7 +145,7 @@ fn check(t: Tables, s: &[u8], out: &mut [u8], at: usize) -> Called
 {
     let time = line::number(s, line::behind(7), 16);
     if line::is_end(s, time) {
-        let checked = session::time_check(t, time.value);
+        let checked = sessions::time_check(t, time.value);
         let after = checked.tables;
         let codes = checked.codes;
         return Called {

@@ -1,9 +1,9 @@
 // What the calls over listeners and sessions answer, in words.
 use line::answer;
-use session::Answer;
 use session::Session;
 use session::SessionState;
-use session::Tables;
+use sessions::Answer;
+use sessions::Tables;
 use timing::Timing;
 ghost use Prim.Native.Nat.{_≤_};
 ghost use lib.ListN.{length};

@@ -1,6 +1,6 @@
 -- One session. Document 01, Message sessions.
 use Prim.Native.Nat.{ℕ}
-use mathlib.Core.Bool.{Bool, true, false, cond, not, _&&_}
+use mathlib.Core.Bool.{Bool, true, false, cond, not, _&&_, _||_}
 use mathlib.Core.List.{List}
 use lib.Dec.{eqb}
 use lib.IntN.{ℤ, pos, negsuc}
@@ -10,6 +10,8 @@ use Rattle.timing.specs.Timing.{timeUp}
 use Rattle.timing.specs.declared.Timing.{Timing}
 use Rattle.session.specs.declared.Session.{Session}
 use Rattle.session.specs.declared.SessionState.{SessionState}
+use Rattle.session.specs.declared.Waits.{Waits}
+use Rattle.session.specs.declared.Waits.the-variants.{Reply, Confirm}
 use Rattle.session.specs.declared.SessionState.the-variants.{Free, WaitingForReply, OwingConfirm, WithUser, WaitingForConfirm}
 
 -- a free session is one fixed value
@@ -74,3 +76,21 @@ isUp time (WaitingForConfirm t) = timeUp t time
 -- a time check frees every session whose time is up
 abbrev pub expired : ℕ → Session → Session
 expired time x = cond (isUp time (x .state)) freeSession x
+
+-- what an incoming reply or confirm asks of a session
+abbrev pub waitsOf : Waits → SessionState → Bool
+waitsOf Reply s = waitsForReply s
+waitsOf Confirm s = waitsForConfirm s
+
+-- a session of that identifier that can take this
+abbrev pub canTake : (SessionState → Bool) → List ℕ → Session → Bool
+canTake in′ id x = has id x && in′ (x .state)
+
+-- 5 if neither Mp nor Mq
+abbrev pub isReply : ℕ → Bool
+isReply type = eqb type 0x4D70 || eqb type 0x4D71
+
+-- with Mp frees, with Mq waits for confirm with the user's timeout
+abbrev pub answered : ℕ → ℕ → ℕ → Session → Session
+answered type timeout time x =
+    cond (eqb type 0x4D70) freeSession (record { id = x .id; state = WaitingForConfirm (record { start = time; timeout = timeout }) })

@@ -37,8 +37,8 @@ ghost use Rattle.subscription.specs.Table as table;
 ghost use Rattle.subscriptions.specs.Calls.{meaning};
 ghost use Rattle.subscriptions.specs.declared.Reading.the-variants as reading;
 ghost use Rattle.trdp.specs.Subscriptions.{outcomeOf, Follows, Receives, stateNumber, ofReading, isShown, Reads};
-ghost use Rattle.session.specs.Calls as session;
-ghost use Rattle.session.specs.Table as messages;
+ghost use Rattle.sessions.specs.Calls as session;
+ghost use Rattle.sessions.specs.Table as messages;
 ghost use Rattle.trdp.specs.Sessions as sessions;
 ghost use Rattle.trdp.specs.Wire.{noCommon, noPdHeader, noMdHeader, noMdDatagram, ofWritten, ofConverted, ofPdTaken, ofMdTaken, ofSent, Writes, SendsOut, ConvertsTo};
 
@@ -466,43 +466,43 @@ pub extern "C" fn trdp_read(t: &[Subscription], store: &[u8], k: usize) -> Shown
     of_reading(x, k)
 }
 
-fn of_told(a: session::Answer) -> Outcome
+fn of_told(a: sessions::Answer) -> Outcome
     ensures { λ r. ⌜ r ≡ sessions.outcomeOf (session.meaning a) ⌝ }
 {
     match a {
-        session::Answer::Listening(k) => Outcome {
+        sessions::Answer::Listening(k) => Outcome {
             refusal: 0,
             value: k,
         },
-        session::Answer::Freed => Outcome {
+        sessions::Answer::Freed => Outcome {
             refusal: 0,
             value: 0,
         },
-        session::Answer::Opened(k) => Outcome {
+        sessions::Answer::Opened(k) => Outcome {
             refusal: 0,
             value: k,
         },
-        session::Answer::Notified(l) => Outcome {
+        sessions::Answer::Notified(l) => Outcome {
             refusal: 0,
             value: l,
         },
-        session::Answer::Requested(_, k) => Outcome {
+        sessions::Answer::Requested(_, k) => Outcome {
             refusal: 0,
             value: k,
         },
-        session::Answer::Taken(_, k) => Outcome {
+        sessions::Answer::Taken(_, k) => Outcome {
             refusal: 0,
             value: k,
         },
-        session::Answer::Replied => Outcome {
+        sessions::Answer::Replied => Outcome {
             refusal: 0,
             value: 0,
         },
-        session::Answer::Confirmed => Outcome {
+        sessions::Answer::Confirmed => Outcome {
             refusal: 0,
             value: 0,
         },
-        session::Answer::Refused(n, _) => Outcome {
+        sessions::Answer::Refused(n, _) => Outcome {
             refusal: n,
             value: 0,
         },
@@ -627,19 +627,19 @@ fn told(kind: u8, number: u8, status: i32, listener: usize, slot: usize) -> MdOu
     }
 }
 
-fn of_received(a: session::Answer) -> MdOutcome
+fn of_received(a: sessions::Answer) -> MdOutcome
     ensures { λ r. ⌜ r ≡ sessions.mdOutcomeOf (session.meaning a) ⌝ }
 {
     match a {
-        session::Answer::Listening(_) => told(0, 0, 0, 0, 0),
-        session::Answer::Freed => told(0, 0, 0, 0, 0),
-        session::Answer::Opened(_) => told(0, 0, 0, 0, 0),
-        session::Answer::Notified(l) => told(1, 0, 0, l, 0),
-        session::Answer::Requested(l, k) => told(2, 0, 0, l, k),
-        session::Answer::Taken(status, k) => told(3, 0, status, 0, k),
-        session::Answer::Replied => told(0, 0, 0, 0, 0),
-        session::Answer::Confirmed => told(0, 0, 0, 0, 0),
-        session::Answer::Refused(n, status) => told(0, n, status, 0, 0),
+        sessions::Answer::Listening(_) => told(0, 0, 0, 0, 0),
+        sessions::Answer::Freed => told(0, 0, 0, 0, 0),
+        sessions::Answer::Opened(_) => told(0, 0, 0, 0, 0),
+        sessions::Answer::Notified(l) => told(1, 0, 0, l, 0),
+        sessions::Answer::Requested(l, k) => told(2, 0, 0, l, k),
+        sessions::Answer::Taken(status, k) => told(3, 0, status, 0, k),
+        sessions::Answer::Replied => told(0, 0, 0, 0, 0),
+        sessions::Answer::Confirmed => told(0, 0, 0, 0, 0),
+        sessions::Answer::Refused(n, status) => told(0, n, status, 0, 0),
     }
 }
 

@@ -5,8 +5,8 @@ use mir.Val.{ofZ, toZ}
 use mir.Syntax.{w32}
 use Rattle.refusal.specs.Refusal.{topography, uri}
 use Rattle.md.specs.Md.{refusalOf}
-use Rattle.session.proofs.Arrived.{not-taken, not-local, not-sound, refused-follows, passed-follows}
-use Rattle.session.specs.Table as table
+use Rattle.sessions.proofs.Arrived.{not-taken, not-local, not-sound, refused-follows, passed-follows}
+use Rattle.sessions.specs.Table as table
 use Rattle.packed.specs.Packed.{tablesOf}
 use Rattle.packed.proofs.Left.{refused, gave}
 use borrow.Author.Needs.{needs}

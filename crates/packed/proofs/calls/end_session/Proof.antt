@@ -4,9 +4,10 @@ use mir.Facts.{toZ-ofZ}
 use mir.Val.{ofZ, toZ}
 use mir.Syntax.{w32}
 use Rattle.tables.specs.Lists.{lowest}
-use Rattle.session.proofs.Arrived.{untaken, takes}
-use Rattle.session.specs.Calls.{waitsOf}
-use Rattle.session.specs.Table.{canTake, takenAt, ended}
+use Rattle.sessions.proofs.Arrived.{untaken, takes}
+use Rattle.session.specs.Session.{waitsOf}
+use Rattle.session.specs.Session.{canTake}
+use Rattle.sessions.specs.Table.{takenAt, ended}
 use Rattle.session.specs.declared.Session.{Session}
 use Rattle.packed.specs.Packed.{tablesOf}
 use Rattle.packed.proofs.Left.{gives, keeps-session, wrote-session}

@@ -1,6 +1,6 @@
 -- The types are asked for in the order of the definition.
 use borrow.Author.Tests.{eq-eqb, ne-eqb}
-use Rattle.session.specs.Table.{kindOf}
+use Rattle.sessions.specs.Table.{kindOf}
 use borrow.Author.Needs.{needs}
 use Rattle.packed.proofs.calls.follow.Statement.{statement}
 use Rattle.packed.proofs.calls.follow.Tie as tie

@@ -4,11 +4,11 @@ use mathlib.Core.Bool.{not}
 use mathlib.Core.List.{List}
 use Rattle.refusal.specs.Refusal.{firstOf, noFreeSlot}
 use Rattle.tables.specs.Lists.{lowest}
-use Rattle.session.proofs.Listening.{listen-refused, listen-full, listen-done}
-use Rattle.session.proofs.Places.{found-none, found-some}
-use Rattle.session.specs.Calls.{foundOf}
+use Rattle.sessions.proofs.Listening.{listen-refused, listen-full, listen-done}
+use Rattle.sessions.proofs.Places.{found-none, found-some}
+use Rattle.sessions.specs.Calls.{foundOf}
 use Rattle.session.specs.Listener.{newListener}
-use Rattle.session.specs.Table as table
+use Rattle.sessions.specs.Table as table
 use Rattle.session.specs.declared.Listener.{Listener}
 use Rattle.packed.specs.Packed.{tablesOf}
 use Rattle.packed.proofs.Left.{refused, follows, keeps-listener, wrote-listener}

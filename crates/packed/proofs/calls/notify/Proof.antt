@@ -1,8 +1,8 @@
 -- The lowest listener that hears the telegram was found, or none.
 use mathlib.Core.Path.{refl, sym, _∙_}
-use Rattle.session.proofs.Arrived.{unheard, heard}
-use Rattle.session.specs.Arriving.{heardBy}
-use Rattle.session.specs.Table.{hearing, notifying}
+use Rattle.sessions.proofs.Arrived.{unheard, heard}
+use Rattle.sessions.specs.Arriving.{heardBy}
+use Rattle.sessions.specs.Table.{hearing, notifying}
 use Rattle.packed.specs.Packed.{tablesOf}
 use Rattle.packed.proofs.Left.{gives}
 use borrow.Author.Needs.{needs}

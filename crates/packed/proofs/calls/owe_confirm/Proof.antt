@@ -4,11 +4,12 @@ use mir.Facts.{toZ-ofZ}
 use mir.Val.{ofZ, toZ}
 use mir.Syntax.{w32}
 use Rattle.tables.specs.Lists.{lowest}
-use Rattle.session.proofs.Arrived.{untaken, takes}
-use Rattle.session.specs.Arriving.{byIdentifier}
+use Rattle.sessions.proofs.Arrived.{untaken, takes}
+use Rattle.sessions.specs.Arriving.{byIdentifier}
 use Rattle.session.specs.Session.{waitsForReply}
 use Rattle.session.specs.declared.SessionState.the-variants.{OwingConfirm}
-use Rattle.session.specs.Table.{canTake, takenAt, owing}
+use Rattle.session.specs.Session.{canTake}
+use Rattle.sessions.specs.Table.{takenAt, owing}
 use Rattle.session.specs.declared.Session.{Session}
 use Rattle.packed.specs.Packed.{tablesOf}
 use Rattle.packed.proofs.Left.{gives, keeps-session, wrote-session}

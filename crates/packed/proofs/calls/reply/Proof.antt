@@ -1,10 +1,10 @@
 -- The record of the slot decides, and is written where it changed.
 use mathlib.Core.Path.{refl, sym, _∙_}
 use Rattle.refusal.specs.Refusal.{msgType, noSlot, noSession}
-use Rattle.session.proofs.Answers.{slot-free, slot-done, slot-other, reply-step, reply-none}
+use Rattle.sessions.proofs.Answers.{slot-free, slot-done, slot-other, reply-step, reply-none}
 use Rattle.session.specs.Session.{isWithUser}
-use Rattle.session.specs.Table as table
-use Rattle.session.specs.declared.Answer.the-variants.{Replied}
+use Rattle.sessions.specs.Table as table
+use Rattle.sessions.specs.declared.Answer.the-variants.{Replied}
 use Rattle.packed.specs.Packed.{tablesOf}
 use Rattle.packed.proofs.Left.{refused, follows, keeps-session, wrote-session}
 use Rattle.packed.proofs.Places.{PutsSession}

@@ -1,8 +1,8 @@
 -- A session is opened where a listener hears the request.
 use mathlib.Core.Path.{refl, sym, _∙_}
-use Rattle.session.proofs.Arrived.{unrequested}
-use Rattle.session.specs.Arriving.{heardBy}
-use Rattle.session.specs.Table.{hearing, requesting}
+use Rattle.sessions.proofs.Arrived.{unrequested}
+use Rattle.sessions.specs.Arriving.{heardBy}
+use Rattle.sessions.specs.Table.{hearing, requesting}
 use Rattle.packed.specs.Packed.{tablesOf}
 use Rattle.packed.proofs.Left.{gives, requests}
 use borrow.Author.Needs.{needs}

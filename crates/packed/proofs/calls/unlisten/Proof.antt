@@ -1,9 +1,9 @@
 -- The record of the slot decides, and is written where it was freed.
 use mathlib.Core.Path.{refl}
 use Rattle.refusal.specs.Refusal.{noSlot}
-use Rattle.session.proofs.Answers.{unlisten-done, unlisten-none}
-use Rattle.session.specs.Table as table
-use Rattle.session.specs.declared.Answer.the-variants.{Freed}
+use Rattle.sessions.proofs.Answers.{unlisten-done, unlisten-none}
+use Rattle.sessions.specs.Table as table
+use Rattle.sessions.specs.declared.Answer.the-variants.{Freed}
 use Rattle.packed.specs.Packed.{tablesOf}
 use Rattle.packed.proofs.Left.{refused, follows, keeps-listener, wrote-listener}
 use Rattle.packed.proofs.Places.{PutsListener}

@@ -2,7 +2,7 @@
 use mathlib.Core.Path.{sym, ap, _∙_}
 use Prim.Native.Nat.{_-_}
 use native.Mathlib.Omega.{arith}
-use Rattle.session.proofs.Searches.{Sought, sought-start, sought-here, sought-next, sought-end}
+use Rattle.sessions.proofs.Searches.{Sought, sought-start, sought-here, sought-next, sought-end}
 use Rattle.session.specs.Listener.{freeListener, hears}
 use Rattle.packed.specs.Packed.{tablesOf}
 use Rattle.packed.proofs.Places.{listeners-long}

@@ -1,6 +1,6 @@
 -- The identifier is sought, then a free slot.
 use mathlib.Core.Path.{sym, ap, _∙_}
-use Rattle.session.proofs.Places.{found-none, found-some}
+use Rattle.sessions.proofs.Places.{found-none, found-some}
 use Rattle.session.specs.Session.{has}
 use Rattle.packed.specs.Packed.{tablesOf}
 use Rattle.packed.specs.Calls.{isFound}

@@ -1,0 +1,18 @@
+use borrow.Author.Needs.{needs}
+use Rattle.sessions.proofs.Answers.{called}
+use Rattle.sessions.proofs.call.Statement.{statement}
+use Rattle.sessions.proofs.call.Tie as tie
+
+open-requires : tie.Need-open-requires
+open-requires c κs = search needs
+
+opened-as-requires : tie.Need-opened-as-requires
+opened-as-requires c κs = search needs
+
+returns : tie.Need-returns
+returns c =
+    let a = c .before .before .before .before .before .args in
+    called (a .id) (a .timeout) (a .time) (a .t) (c .before .before .before .«open» .result) (c .opened-as .result) (c .before .before .before .«open» .ensures) (c .opened-as .ensures)
+
+pub call-spec : {M : Type 1} → statement M
+call-spec = tie.close (tie.spec open-requires opened-as-requires returns)
