@@ -1,2 +1,4 @@
 mod Lines
 pub mod Counted
+pub mod Rooms
+pub mod Decimals
