@@ -61,6 +61,7 @@ unfolding decimalOf
 decimal-is x k h f = spelt 19 k x (omega arith) f
 
 below : (x : ℤ) (v : ℕ) → SFits w32 x → ltZ x (pos 0) ≡ true → v < 2 ^ 32 → (v + unsigned x) % 2 ^ 32 ≡ 0 → signed x ≡ ascii " -" ∷ decimalOf v ∷ []
+unfolding signed
 below (pos n) v f e h m = absurd (omega (arith, ltb-true n 0 e))
 below (negsuc n) v f e h m =
     let b : n < 2 ^ 31 = f .sfits in
@@ -68,6 +69,7 @@ below (negsuc n) v f e h m =
     ap (λ (j : ℕ). ascii " -" ∷ decimalOf j ∷ []) k
 
 above : (x : ℤ) → ltZ x (pos 0) ≡ false → signed x ≡ decimal (unsigned x)
+unfolding signed
 above (pos n) e = refl
 above (negsuc n) e = absurd (true≢false e)
 

@@ -102,6 +102,7 @@ _⨟_ {ss} {ts} {at} {p} {r} {o} x y = record { puts = y .puts ∙ ap (putAll ts
 
 -- a space, and what stands behind it
 pub behind-space : {s : List ℕ} {at p r : ℕ} {o o′ o″ : List ℕ} → Puts (ascii " " ∷ []) at o p o′ → Puts (s ∷ []) p o′ r o″ → Puts (spaced s) at o r o″
+unfolding spaced
 behind-space x y = x ⨟ y
 
 module _ {ss : List (List ℕ)} {at r : ℕ} {o o′ : List ℕ} where
@@ -111,6 +112,12 @@ module _ {ss : List (List ℕ)} {at r : ℕ} {o o′ : List ℕ} where
 
   pub long : Puts ss at o r o′ → length o′ ≡ length o
   long x = ap (λ (m : Room). length (m .octets)) (x .puts) ∙ putAll-length ss (room at o)
+
+  -- a place within the room stays there
+  pub bounded : at ≤ length o → Puts ss at o r o′ → r ≤ length o
+  bounded h x =
+      let e : r ≡ (putAll ss (room at o)) .at = ap (λ (m : Room). m .at) (x .puts) in
+      omega (arith, stays ss (room at o) h)
 
   -- all of them, where they fit
   pub place : at + length (flatten ss) ≤ length o → Puts ss at o r o′ → r ≡ at + length (flatten ss)

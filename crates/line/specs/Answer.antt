@@ -4,7 +4,7 @@ use Prim.Native.Char.{code}
 use Prim.Native.String.{String, [] as none, _∷_ as _then_}
 use mathlib.Core.Path.{_≡_}
 use mathlib.Core.List.{List, [], _∷_, _++_}
-use mathlib.Core.Bool.{cond}
+use mathlib.Core.Bool.{Bool, false, cond, _||_}
 use lib.Dec.{eqb, ltb, leb}
 use lib.IntN.{ℤ, pos, negsuc}
 use lib.ListN.{length, drop}
@@ -41,7 +41,7 @@ pub record Puts (pieces : List (List ℕ)) (at : ℕ) (before : List ℕ) (r : �
   pub puts : room r after ≡ putAll pieces (room at before)
 
 -- a space, and octets as they are
-abbrev pub spaced : List ℕ → List (List ℕ)
+unfoldable pub spaced : List ℕ → List (List ℕ)
 spaced s = ascii " " ∷ s ∷ []
 
 -- a space and a word
@@ -62,15 +62,15 @@ abbrev pub decimal : ℕ → List (List ℕ)
 decimal x = spaced (decimalOf x)
 
 -- a space and a number in n hexadecimal digits
-abbrev pub number : ℕ → ℕ → List (List ℕ)
+unfoldable pub number : ℕ → ℕ → List (List ℕ)
 number n x = spaced (digitsOf n x)
 
 -- a space and octets in hexadecimal
-abbrev pub octets : List ℕ → List (List ℕ)
+unfoldable pub octets : List ℕ → List (List ℕ)
 octets s = spaced (hexOf s)
 
 -- a space and a signed number in decimal: a minus sign before the digits of its absolute value
-abbrev pub signed : ℤ → List (List ℕ)
+unfoldable pub signed : ℤ → List (List ℕ)
 signed (pos n) = decimal n
 signed (negsuc n) = ascii " -" ∷ decimalOf (suc n) ∷ []
 
@@ -81,6 +81,11 @@ wordOf s x = spaced s ++ decimal x
 -- `refused` and a number of document 01
 abbrev pub refused : ℕ → List (List ℕ)
 refused r = wordOf (ascii "refused") r
+
+-- an octet of them is LF
+abbrev pub hasEnd : List ℕ → Bool
+hasEnd [] = false
+hasEnd (x ∷ s) = eqb x 10 || hasEnd s
 
 -- how many octets stand before the first LF; all where there is none
 abbrev pub untilEnd : List ℕ → ℕ

@@ -3,6 +3,7 @@ use mathlib.Core.Path.{_≡_}
 use Prim.Native.Nat.{_+_}
 use native.Mathlib.Omega.{arith}
 use lib.ListN.{length}
+use Rattle.line.specs.Answer.{spaced, number}
 use Rattle.capture.specs.Hex.{digitsOf}
 use Rattle.capture.proofs.Written.{digits-length}
 use borrow.Author.Needs.{needs}
@@ -29,6 +30,7 @@ same-length : tie.Need-same-length
 same-length c = search needs
 
 returns : tie.Need-returns
+unfolding spaced number
 returns c =
     let a = c .before .before .before .before .before .before .before .before .before .before .before .args in
     let t = c .before .before .before .before .before .before .before .text in
@@ -39,6 +41,7 @@ same-length-2 : tie.Need-same-length-2
 same-length-2 c = search needs
 
 returns-2 : tie.Need-returns-2
+unfolding spaced number
 returns-2 c =
     let a = c .before .before .before .before .before .before .before .args in
     let t = c .before .before .before .text in
