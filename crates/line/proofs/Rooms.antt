@@ -13,7 +13,8 @@ use lib.Seq.{take-at, drop-at, drop-drop, length-take-le}
 use Rattle.octets.specs.Octets.{put}
 use Rattle.capture.specs.Hex.{hexOf}
 use Rattle.capture.proofs.Written.{put-none}
-use Rattle.line.specs.Answer.{Room, room, putPiece, putAll, Puts, ascii, spaced}
+use mathlib.Core.Option.{none, some}
+use Rattle.line.specs.Answer.{Room, room, putPiece, putAll, Puts, Answers, ascii, spaced}
 
 -- what is written within a list leaves its length
 pub put-length : (k : ℕ) (t s : List ℕ) → k + length t ≤ length s → length (put k t s) ≡ length s
@@ -131,6 +132,13 @@ pub within : {s : List ℕ} {ss : List (List ℕ)} {at r : ℕ} {o o′ : List �
 within {s} {ss} {at} {r} {o} x =
     let e : r ≡ (putAll (s ∷ ss) (room at o)) .at = ap (λ (m : Room). m .at) (x .puts) in
     omega (arith, putAll-within s ss at o)
+
+-- a line's answer: its pieces, or nothing
+pub answered : {ss : List (List ℕ)} {at r : ℕ} {o o′ : List ℕ} → Puts ss at o r o′ → Answers (some ss) at o r o′
+answered x = record { answers = x .puts }
+
+pub unanswered : (at : ℕ) (o : List ℕ) → Answers none at o 0 o
+unanswered at o = record { answers = refl }
 
 -- octets take two digits each
 pub hex-length : (s : List ℕ) → length (hexOf s) ≡ 2 * length s

@@ -5,6 +5,7 @@ use Prim.Native.String.{String, [] as none, _∷_ as _then_}
 use mathlib.Core.Path.{_≡_}
 use mathlib.Core.List.{List, [], _∷_, _++_}
 use mathlib.Core.Bool.{Bool, false, cond, _||_}
+use mathlib.Core.Option.{Option, none as nothing, some}
 use lib.Dec.{eqb, ltb, leb}
 use lib.IntN.{ℤ, pos, negsuc}
 use lib.ListN.{length, drop}
@@ -39,6 +40,14 @@ putAll (s ∷ ss) r = putAll ss (putPiece s r)
 -- what a call that puts pieces at a place answers, the place behind them, and what it leaves in the room
 pub record Puts (pieces : List (List ℕ)) (at : ℕ) (before : List ℕ) (r : ℕ) (after : List ℕ) : Type 0 where
   pub puts : room r after ≡ putAll pieces (room at before)
+
+-- a line's answer: pieces; or nothing, where it is no line of these verbs: then the place is 0 and the room stays as it was
+abbrev pub answeredBy : Option (List (List ℕ)) → Room → Room
+answeredBy nothing r = room 0 (r .octets)
+answeredBy (some pieces) r = putAll pieces r
+
+pub record Answers (pieces : Option (List (List ℕ))) (at : ℕ) (before : List ℕ) (r : ℕ) (after : List ℕ) : Type 0 where
+  pub answers : room r after ≡ answeredBy pieces (room at before)
 
 -- a space, and octets as they are
 unfoldable pub spaced : List ℕ → List (List ℕ)
