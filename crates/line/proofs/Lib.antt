@@ -1,2 +1,5 @@
 mod Lines
+mod Ends
 pub mod Counted
+pub mod Rooms
+pub mod Decimals

@@ -4,12 +4,13 @@ use subscription::LastTaken;
 use subscription::State;
 use subscription::Subscription;
 use subscriptions::Answer;
-ghost use Prim.Native.Nat.{_≤_};
-ghost use lib.ListN.{length};
+ghost use Rattle.line.specs.Answer.{Puts};
+ghost use Rattle.subscriptions.specs.Calls.{meaning};
+ghost use Rattle.scenario_pd_words.specs.Words.{answerWords, stateWords, grantedWords, lastWords, recordWords};
 
 // An answer; of a refusal its number.
 pub fn put_answer(out: &mut [u8], at: usize, a: Answer) -> usize
-    ensures { λ r. ⌜ r ≤ length (now (out .entry)) ⌝ }
+    ensures { λ q. ⌜ Puts (answerWords (meaning a)) at (now (out .entry)) q (now (out .exit)) ⌝ }
 {
     match a {
         Answer::Granted(k) => answer::word_of(out, at, b"slot", k),
@@ -22,7 +23,7 @@ pub fn put_answer(out: &mut [u8], at: usize, a: Answer) -> usize
 
 // Whether a slot is valid, timed out, or never received.
 pub fn put_state(out: &mut [u8], at: usize, state: State) -> usize
-    ensures { λ r. ⌜ r ≤ length (now (out .entry)) ⌝ }
+    ensures { λ q. ⌜ Puts (stateWords state) at (now (out .entry)) q (now (out .exit)) ⌝ }
 {
     match state {
         State::NeverReceived => answer::word(out, at, b"never"),
@@ -33,7 +34,7 @@ pub fn put_state(out: &mut [u8], at: usize, state: State) -> usize
 
 // COMID START END DEST TIMEOUT BEHAVIOUR
 fn put_granted(out: &mut [u8], at: usize, r: Subscription) -> usize
-    ensures { λ q. ⌜ q ≤ length (now (out .entry)) ⌝ }
+    ensures { λ q. ⌜ Puts (grantedWords r) at (now (out .entry)) q (now (out .exit)) ⌝ }
 {
     let p = answer::number8(out, at, r.filter.com_id);
     let p = answer::number8(out, p, r.filter.senders.start);
@@ -45,7 +46,7 @@ fn put_granted(out: &mut [u8], at: usize, r: Subscription) -> usize
 
 // SENDER COUNTER, or `- -` where no counter is held
 fn put_last(out: &mut [u8], at: usize, l: LastTaken) -> usize
-    ensures { λ r. ⌜ r ≤ length (now (out .entry)) ⌝ }
+    ensures { λ q. ⌜ Puts (lastWords l) at (now (out .entry)) q (now (out .exit)) ⌝ }
 {
     if l.held {
         let p = answer::number8(out, at, l.sender);
@@ -56,7 +57,7 @@ fn put_last(out: &mut [u8], at: usize, l: LastTaken) -> usize
 
 // A record: free, or used and its fields.
 pub fn put_record(out: &mut [u8], at: usize, r: Subscription) -> usize
-    ensures { λ q. ⌜ q ≤ length (now (out .entry)) ⌝ }
+    ensures { λ q. ⌜ Puts (recordWords r) at (now (out .entry)) q (now (out .exit)) ⌝ }
 {
     if r.used {
         let last = r.last;
