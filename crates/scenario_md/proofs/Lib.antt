@@ -1,0 +1,4 @@
+mod Codes
+mod Shown
+mod Lines
+pub mod Served
