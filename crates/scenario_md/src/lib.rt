@@ -13,7 +13,7 @@ ghost use mathlib.Core.Option.{some};
 ghost use lib.ListN.{replicate};
 ghost use Rattle.session.specs.Listener.{freeListener};
 ghost use Rattle.session.specs.Session.{freeSession};
-ghost use Rattle.session.specs.Table.{telegram};
+ghost use Rattle.sessions.specs.Table.{telegram};
 ghost use Rattle.scenario_md.specs.Lines.{calls, listenAsked, unlistenAsked, callAsked, mdAsked, replyAsked, confirmAsked, checkAsked, sessionAsked, userAsked, askedOf};
 ghost use Rattle.scenario_md.specs.Served.{Tells, Serves, Answered};
 

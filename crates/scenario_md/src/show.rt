@@ -6,8 +6,8 @@ use sessions::Answer;
 use sessions::Tables;
 use timing::Timing;
 ghost use Rattle.line.specs.Answer.{Puts};
-ghost use Rattle.session.specs.Calls.{meaning};
-ghost use Rattle.session.specs.Table.{requested, taken, codes as codesTold};
+ghost use Rattle.sessions.specs.Calls.{meaning};
+ghost use Rattle.sessions.specs.Table.{requested, taken, codes as codesTold};
 ghost use Rattle.scenario_md.specs.Words.{answerWords, statusWords, heardWords, usedWords, recordWords, slotWords};
 
 // A request: the listener and the session's slot.
