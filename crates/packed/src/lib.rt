@@ -1,7 +1,4 @@
 // Listeners and sessions as 1280 octets that a host lends: sixteen listeners of 48, then sixteen sessions of 32.
-pub mod calls;
-pub mod slots;
-
 use address::SenderRange;
 use session::Listener;
 use session::Session;
@@ -86,7 +83,7 @@ fn is_used(n: u8) -> bool
 }
 
 // The listener in 48 octets.
-fn unpack_listener(s: &[u8]) -> Listener
+pub fn unpack_listener(s: &[u8]) -> Listener
     requires { ⌜ length (now s) ≡ 48 ⌝ }
     ensures { λ r. ⌜ r ≡ listenerOf (now (s .entry)) ⌝ }
 {
@@ -144,7 +141,7 @@ pub fn unpack_session(s: &[u8]) -> Session
 }
 
 // Sixteen listeners.
-fn unpack_listeners(s: &[u8]) -> [Listener; 16]
+pub fn unpack_listeners(s: &[u8]) -> [Listener; 16]
     requires { ⌜ 768 ≤ length (now s) ⌝ }
     ensures { λ r. ⌜ r ≡ listenersOf (now (s .entry)) ⌝ }
 {
@@ -170,7 +167,7 @@ fn used_number(used: bool) -> u32
 }
 
 // A listener written over 48 octets; they mean it again.
-fn pack_listener(l: Listener, s: &mut [u8])
+pub fn pack_listener(l: Listener, s: &mut [u8])
     requires { ⌜ length (now s) ≡ 48 ⌝ }
     ensures written { λ _. ⌜ now (s .exit) ≡ listenerOctets l ⌝ }
     ensures long { λ _. ⌜ length (listenerOctets l) ≡ 48 ⌝ }
@@ -214,7 +211,7 @@ pub fn timing_of(s: SessionState) -> Timing
 }
 
 // A session written over 32 octets; they mean it again.
-fn pack_session(x: Session, s: &mut [u8])
+pub fn pack_session(x: Session, s: &mut [u8])
     requires { ⌜ length (now s) ≡ 32 ⌝ }
     ensures written { λ _. ⌜ now (s .exit) ≡ sessionOctets x ⌝ }
     ensures long { λ _. ⌜ length (sessionOctets x) ≡ 32 ⌝ }

@@ -20,8 +20,8 @@ use Rattle.session.specs.Session.{freeSession}
 use Rattle.sessions.specs.Table.{Call, step, telegram}
 use Rattle.sessions.specs.declared.Answer.{Answer}
 use Rattle.session.specs.declared.Session.{Session}
-use Rattle.packed.specs.Calls as packed
-use Rattle.packed.specs.Calls.{leftBy}
+use Rattle.packed_calls.specs.Calls as packed
+use Rattle.packed_calls.specs.Calls.{leftBy}
 use Rattle.packed.specs.Packed.{tablesOf}
 use Rattle.trdp.specs.declared.Outcome.{Outcome}
 use Rattle.trdp.specs.declared.MdOutcome.{MdOutcome}

@@ -15,7 +15,7 @@ use Rattle.session.specs.Session.{freeSession}
 use Rattle.sessions.specs.Table as table
 use Rattle.sessions.specs.Table.{Call, step, telegram, timeCheck}
 use Rattle.session.specs.declared.Session.{Session}
-use Rattle.packed.specs.Calls.{leftBy, expiredIn}
+use Rattle.packed_calls.specs.Calls.{leftBy, expiredIn}
 use Rattle.packed.specs.Packed.{tablesOf, stateNumber, timingOf}
 use Rattle.trdp.specs.declared.Outcome.{Outcome}
 use Rattle.trdp.specs.declared.MdOutcome.{MdOutcome}
