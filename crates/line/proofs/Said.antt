@@ -4,14 +4,14 @@ use mathlib.Core.Path.{_≡_, refl, sym, ap, _∙_}
 use mathlib.Core.Bool.{Bool, true, false, cond, not, _&&_, true≢false}
 use mathlib.Core.List.{List, _∷_}
 use mathlib.Core.Option.{Option, none, some}
-use Prim.Native.Nat.{ℕ, zero, suc, _+_, _*_, _%_, _^_, _≤_}
+use Prim.Native.Nat.{ℕ, zero, suc, _+_, _*_, _≤_}
 use native.Mathlib.Omega.{arith}
 use lib.Dec.{eqb, leb}
 use lib.ListN.{length, take, replicate}
 use Rattle.line.specs.declared.Field.{Field}
 use Rattle.line.specs.declared.Count.{Count}
-use Rattle.line.specs.Answer.{Room, room, answeredBy, Puts, Answers}
-use Rattle.line.specs.Line.{hasDigits, badAt, readTo, fieldOf, octetsField, octetsIn, ends, left, lastField, withEnd, withOctets}
+use Rattle.line.specs.Answer.{room, answeredBy, Puts, Answers}
+use Rattle.line.specs.Line.{hasDigits, badAt, readTo, fieldOf, octetsField, octetsIn, left, lastField, withOctets}
 
 -- the last field as it was read into a buffer of 66,000 octets
 module _ {A : Type 0} (s : List ℕ) (f : Field) (t : List ℕ) (n : Count) (said : List ℕ → A) where

@@ -19,11 +19,11 @@ use Rattle.dataset.specs.declared.Form.{Form}
 use Rattle.dataset.specs.declared.Form.the-variants.{Wire, Host}
 use Rattle.dataset.specs.declared.Converted.{Converted}
 use Rattle.dataset.specs.declared.Converted.the-variants.{Octets, Refused}
-use Rattle.dataset.specs.Walk.{Walked, wholeOf, refusalOf, doneOf, Converts}
+use Rattle.dataset.specs.Walk.{wholeOf, refusalOf, doneOf, Converts}
 use Rattle.line.specs.declared.Field.{Field}
 use Rattle.line.specs.Line.{readTo, numberField, verbIs, withOctets}
-use Rattle.line.specs.Answer.{ascii, word, Puts, Answers}
-use Rattle.line.proofs.Said.{fresh, answered-as, not-answered, answered-by}
+use Rattle.line.specs.Answer.{ascii, word, Answers}
+use Rattle.line.proofs.Said.{fresh, answered-as, not-answered}
 use Rattle.scenario_data.specs.declared.Outcome.{Outcome}
 use Rattle.scenario_data.specs.Data.{Said, numbersOf, isRun, runSaid, orNone, typesSaid, convertedWords, doneWords, convertWords, targetOf, convertAnswer, keeping, dataSaid, wordsOf, numbersAfter, runAfter, Describes}
 

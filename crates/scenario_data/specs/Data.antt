@@ -12,7 +12,6 @@ use Rattle.dataset.specs.declared.Form.the-variants.{Wire, Host}
 use Rattle.dataset.specs.declared.Converted.{Converted}
 use Rattle.dataset.specs.declared.Converted.the-variants as converted
 use Rattle.dataset.specs.Walk.{wholeOf, refusalOf, doneOf}
-use Rattle.line.specs.declared.Field.{Field}
 use Rattle.line.specs.Line.{readTo, numberField, verbIs, withOctets}
 use Rattle.line.specs.Answer.{ascii, spaced, word, decimal, octets, refused, Answers}
 use Rattle.scenario_data.specs.declared.Outcome.{Outcome}

@@ -33,7 +33,7 @@ use Rattle.scenario_wire.specs.declared.publications.Held.the-variants.{
 use Rattle.scenario_wire.specs.declared.publications.Outcome.{Outcome}
 use Rattle.scenario_wire.specs.Wire.{field, octetField, value8, value4, commonFields, pdFields, targetOf, sessionWords, writtenWords, wroteWords, pdWroteWords, mdWroteWords}
 use Rattle.scenario_wire.specs.Wire.{crcWords, pdtakeWords, mdtakeWords, crcAnswer, pdtakeAnswer, mdtakeAnswer, pdwriteAnswer, mdwriteAnswer, wireAnswer}
-use Rattle.scenario_wire.specs.Publications.{Said, pubSaid, sentSaid, sendSaid, publicationSaid, wordsOf, heldAfter, Publishes}
+use Rattle.scenario_wire.specs.Publications.{Said, pubSaid, sentSaid, sendSaid, publicationSaid, heldAfter, Publishes}
 
 -- a field that was read
 pub read : (s : List ℕ) (f : Field) (n : ℕ) (r : Field) → r ≡ numberField s f n → r ≡ field s f n

@@ -1,6 +1,6 @@
 -- The calls that know no table: the frame check, and telegrams taken apart and written. What each line says, and its answer.
 use Prim.Native.Nat.{ℕ, zero, suc, _%_, _^_}
-use mathlib.Core.List.{List, [], _∷_, _++_}
+use mathlib.Core.List.{List, _++_}
 use mathlib.Core.Bool.{cond}
 use mathlib.Core.Option.{Option, none}
 use lib.ListN.{length, replicate}

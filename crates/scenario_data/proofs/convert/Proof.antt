@@ -3,7 +3,7 @@ use mathlib.Core.Path.{ap₂, _∙_}
 use mathlib.Core.List.{List}
 use Prim.Native.Nat.{ℕ, _%_, _^_}
 use lib.ListN.{take}
-use Rattle.line.proofs.Rooms.{pieces, _⨟_}
+use Rattle.line.proofs.Rooms.{pieces}
 use Rattle.line.proofs.Said.{unsaid, said-octets, not-answered, answered-by}
 use Rattle.scenario_data.proofs.Described.{convert-is, target-of}
 use Rattle.scenario_data.specs.Data.{targetOf, convertWords}

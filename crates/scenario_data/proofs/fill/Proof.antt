@@ -1,8 +1,8 @@
+-- The loop's invariant: the run stays as long as it was, and its first i numbers are written.
 use mathlib.Core.Path.{ap, ap₂, _∙_}
 use Prim.Native.Nat.{ℕ}
 use lib.ListN.{set}
 use Rattle.scenario_data.proofs.Described.{filled-more, filled-all}
--- The loop's invariant: the run stays as long as it was, and its first i numbers are written.
 use mathlib.Core.Path.{_≡_, refl}
 use Prim.Native.Nat.{_≤_, _-_}
 use native.Mathlib.Omega.{arith}

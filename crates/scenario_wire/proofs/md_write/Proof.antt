@@ -5,7 +5,7 @@ use Prim.Native.Nat.{ℕ}
 use lib.ListN.{take}
 use Rattle.octets.specs.Octets.{signed}
 use Rattle.line.specs.Line.{octetsIn}
-use Rattle.line.proofs.Rooms.{pieces, _⨟_}
+use Rattle.line.proofs.Rooms.{pieces}
 use Rattle.line.proofs.Said.{unsaid, said-octets, not-answered, answered-by}
 use mir.Facts.{toZ-ofZ}
 use mir.Val.{ofZ, toZ}

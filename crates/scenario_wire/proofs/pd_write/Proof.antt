@@ -1,9 +1,9 @@
 -- The fields are those of the line; the last is bad, or its octets are written.
-use mathlib.Core.Path.{_≡_, ap, _∙_}
+use mathlib.Core.Path.{ap, _∙_}
 use mathlib.Core.List.{List}
 use Prim.Native.Nat.{ℕ}
 use lib.ListN.{take}
-use Rattle.line.proofs.Rooms.{pieces, _⨟_}
+use Rattle.line.proofs.Rooms.{pieces}
 use Rattle.line.proofs.Said.{unsaid, said-octets, not-answered, answered-by}
 use Rattle.scenario_wire.proofs.Wired.{pdwrite-is, target-of}
 use Rattle.scenario_wire.specs.Wire.{value4, targetOf, pdWroteWords}

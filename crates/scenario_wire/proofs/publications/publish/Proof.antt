@@ -2,7 +2,6 @@
 use mathlib.Core.Path.{refl, sym, ap, _∙_}
 use Rattle.publication.specs.Publication.{madeOf}
 use Rattle.line.specs.Answer.{word}
-use Rattle.scenario_wire.specs.declared.publications.Held.{Held}
 use Rattle.scenario_wire.specs.declared.publications.Held.the-variants.{Made}
 use Rattle.scenario_wire.proofs.Wired.{pub-made, pub-bad, publishes-some, publishes-none}
 use Rattle.scenario_wire.specs.Wire.{value8}
