@@ -63,7 +63,7 @@ pdCall counters s =
     withNumber s destination 16 (λ time.
     withOctets s time (λ octets. telegram (arrivalIn counters sender destination time) octets))))
 
--- `ok`: each call is lent so many slots and so many octets from now on; over 40 slots, or more octets than the store has, is a bad line
+-- `ok`: each call is lent so many slots and so many octets from now on; over 40 slots, or more octets than the store has (57,280), is a bad line
 abbrev pub allotted : ℕ → ℕ → Slots → List ℕ → Effect
 allotted slots count t store =
     cond (leb slots 40 && leb count (length store))

@@ -19,7 +19,7 @@ ghost use Rattle.subscription.specs.Record.{freeRecord};
 ghost use Rattle.subscription.specs.Table as table;
 ghost use Rattle.subscriptions.specs.Calls.{meaning};
 ghost use Rattle.scenario_pd_words.specs.Words.{answerWords};
-ghost use Rattle.scenario_pd.specs.Effect.{withRecords, saying, calling, counting, Turns};
+ghost use Rattle.scenario_pd.specs.Effect.{withRecords, calling, counting, Turns};
 ghost use Rattle.scenario_pd.specs.Lines.{subCall, unsubCall, checkCall, pdCall, lending, allotted, damaging, damaged, otherEffect, Answered};
 
 // The records, and how many of them and how many octets of the store each call is lent.

@@ -25,7 +25,7 @@ answerWords (marked n) = wordOf (ascii "marked") n
 answerWords (shows state o) = stateWords state ++ octets o
 answerWords (refused r) = refusedWords r
 
--- COMID START END DEST TIMEOUT BEHAVIOUR
+-- COMID START END DEST TIMEOUT BEHAVIOUR, the last of one digit (0, 1 or 2)
 abbrev pub grantedWords : Subscription → List (List ℕ)
 grantedWords r =
     number 8 (r .filter .«com_id»)
