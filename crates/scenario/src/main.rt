@@ -155,9 +155,9 @@ fn finish(r: Run, descriptions: &mut [u32], store: &mut [u8], out: &mut [u8])
 {
     if 0 < r.begun {
         let last = reply(r, descriptions, store, b"", out);
-        output::write(out, last.waiting);
+        output::flush(out, last.waiting, 0);
     } else {
-        output::write(out, r.waiting);
+        output::flush(out, r.waiting, 0);
     }
 }
 
