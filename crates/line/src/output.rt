@@ -7,7 +7,7 @@ ghost use lib.Dec.{ltb};
 ghost use lib.ListN.{length};
 
 // The first n octets written to standard output.
-pub fn write(out: &[u8], n: usize)
+fn write(out: &[u8], n: usize)
     requires { ⌜ n ≤ length (now out) ⌝ }
 {
     io::write_all(STDOUT_FILENO, &out[..n]);
