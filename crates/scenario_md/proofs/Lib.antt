@@ -2,3 +2,4 @@ mod Codes
 mod Shown
 mod Lines
 pub mod Served
+pub mod Begun
