@@ -3,7 +3,7 @@
 
    The host has the sockets, the addresses and the clock, and lends all memory; nothing is kept between two calls. Every call
    ends, whatever it is given, and a refused call leaves all that was lent to it as it was (statistics aside, which count each
-   arriving telegram; and listeners and sessions, whose octets keep their meaning, see there).
+   arriving telegram).
 
    What the caller owes: a pointer leads to as many items as the length beside it says, and is not null even where that is 0;
    memory that a call may write overlaps no other that it is lent; a bool holds 0 or 1. Addresses and numbers are in the host's
@@ -313,7 +313,8 @@ trdp_shown trdp_read(const trdp_subscription *slots, size_t slots_length, const 
 /* ---- Message sessions: 16 listeners and 16 sessions in TRDP_TABLES octets; all zeros are the empty tables ----
    Listener i from 48 i on: used 1 (0 free), 3 zeros, comId 4, range start 4, end 4, URI 32. Session i from 768 + 32 i on: state 1
    (enum trdp_session_state, any other free), 3 zeros, timeout 4, start 8, identifier 16. Numbers are little endian. Octets that
-   something else wrote are read by this meaning, and each call, a refused one too, leaves them as the stack itself writes it. */
+   something else wrote are read by this meaning. A granted call writes the one listener or session that it changed, a time check
+   the sessions that it frees; a notification and a refused call write nothing. */
 
 /* Adds a listener; value: its number, the lowest free one. `uri` is a field of 32 octets; an empty URI hears any destination.
    Refusals: 11, 20, 12, 13. */

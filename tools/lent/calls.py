@@ -70,7 +70,7 @@ callees={
  'unsubscribe':dict(of='subscriptions',params=[L,ST,K],res='Answer',told=follows('(unsubscribe {k})')),
  'time_check':dict(of='subscriptions',params=[L,ST,TIME],res='Answer',told=follows('(timeCheck {time})')),
  'receive':dict(of='subscriptions',params=[L,ST,('s','ref','Statistics'),AR,D],res='Answer',told=lambda r,l,st,s:'arriving.Receives {ar} {d} {l} {st} {s} (meaning (%s)) (%s) (%s) (%s)'%(r,l,st,s)),
- 'session_receive':dict(of='session',name='receive',params=[TB,('s','ref','Statistics'),AR,D],res='Told',told=lambda r,s:'message.Receives {ar} {d} {tb} {s} (%s) (%s)'%(r,s)),
+ 'session_receive':dict(of='sessions',name='receive',params=[TB,('s','ref','Statistics'),AR,D],res='Told',told=lambda r,s:'message.Receives {ar} {d} {tb} {s} (%s) (%s)'%(r,s)),
  'read':dict(of='subscriptions',params=[('l','seen','Subscription'),SO,K],res='Reading',told=lambda r:'Reads {k} {l} {st} (%s)'%r),
 }
 whole='(slots-is .1 .0 .1)'

@@ -24,7 +24,7 @@ use Rattle.statistics.specs.declared.Statistics.{Statistics}
 use Rattle.telegram.specs.declared.Family.{Family}
 use Rattle.telegram.specs.declared.Family.the-variants.{Pd}
 use Rattle.subscriptions.specs.Receive.{Receives, uncounted, outcomeOf}
-use Rattle.subscriptions.proofs.Recording.{deliveredAnswer, deliveredRecords, deliveredStore, answered, uncounted-receives, counted-receives}
+use Rattle.subscriptions.proofs.Recording.{deliveredAnswer, deliveredRecords, deliveredStore, answered, uncounted-receives, counted-receives, delivered-receives}
 use Rattle.subscription.specs.declared.Filter.{Filter}
 use Rattle.subscriptions.specs.declared.Swept.{Swept}
 use Rattle.subscriptions.specs.declared.Answer.{Answer}
@@ -112,7 +112,7 @@ table={
  'outcome_of':dict(params=[('x','plain','Answer')],res='u8',w='outcomeOf (meaning {x})'),
  'record':dict(of='statistics',params=[SS,('fm','plain','Family'),('o','plain','u8')],res='unit',w='tt',last=['added {fm} {o} {ss}']),
  'receive':dict(root=True,params=[L,ST,SS,AR,D],res='Answer',told=lambda r,l,s,z:'Receives {ar} {d} {l} {st} {ss} (meaning (%s)) (%s) (%s) (%s)'%(r,l,s,z),
-   hand=dict(made=lambda s,d,os,vs:('by','Family','Pd','EL.owes Y.the-type Y′.the-laws Pd tt'),said=lambda s,arm:'uncounted-receives ar d l st ss yes₁' if arm=='yes₁' else 'counted-receives ar d l st ss no₁')),
+   hand=dict(made=lambda s,d,os,vs:('by','Family','Pd','EL.owes Y.the-type Y′.the-laws Pd tt'),said=lambda s,arm:{'yes₁':'uncounted-receives ar d l st ss yes₁','yes₂':'delivered-receives ar d l st ss no₁ yes₂'}.get(arm,'counted-receives ar d l st ss no₁'))),
  'free':dict(params=[],res='Subscription',w='freeRecord'),
  'slot_at':dict(params=[T,K],res='Subscription',w='getD {t} {k} freeRecord',hand=dict(within=lambda s,p,k:'ltb-true k (length t) yes₁',said=lambda s,arm:'refl' if arm=='yes₁' else 'not-there t k no₁')),
  'read_record':dict(params=[N1,N2,('x','plain','Subscription')],res='Reading',w='readBy (fits {n₁} {n₂}) {x}'),

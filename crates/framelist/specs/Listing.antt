@@ -1,7 +1,8 @@
 -- The listing: slot 0, and what becomes of a line after line 1.
 use mathlib.Core.Path.{_≡_}
-use mathlib.Core.List.{List, [], _∷_}
+use mathlib.Core.List.{List, [], _∷_, _++_}
 use Prim.Native.Nat.{ℕ, _+_, _%_, _^_}
+use Rattle.line.specs.Answer.{ascii, decimalOf, decimal, word, refused as refusedWords}
 use Rattle.topography.specs.declared.TopoCounts.{TopoCounts}
 use Rattle.arrival.specs.declared.Arrival.{Arrival}
 use Rattle.capture.specs.declared.frame.Frame.{Frame}
@@ -60,3 +61,18 @@ pub record Keeps (l : Listing) (store : List ℕ) (r : Listed) (store′ : List 
 abbrev pub Lists : Listing → FrameLine → List ℕ → List ℕ → Listed → List ℕ → Type 0
 Lists l (frame.Frame f) datagram store r store′ = Hands l f datagram store r store′
 Lists l frame.Bad datagram store r store′ = Keeps l store r store′
+
+-- what became of a line, in words, and the line's end
+abbrev pub outcomeWords : Outcome → List (List ℕ)
+outcomeWords Delivered = ascii " delivered 1\n" ∷ []
+outcomeWords (Refused r) = refusedWords r ++ (ascii "\n" ∷ [])
+outcomeWords BadLine = ascii " bad line\n" ∷ []
+
+-- the line that answers line n: its number, and what became of it
+abbrev pub outcomeLine : ℕ → Outcome → List (List ℕ)
+outcomeLine n o = decimalOf n ∷ outcomeWords o
+
+-- `total T delivered D refused R`
+abbrev pub totalLine : Totals → List (List ℕ)
+totalLine t =
+    (ascii "total" ∷ []) ++ decimal ((t .delivered + t .refused) % 2 ^ 64) ++ word "delivered" ++ decimal (t .delivered) ++ word "refused" ++ decimal (t .refused) ++ (ascii "\n" ∷ [])

@@ -12,10 +12,11 @@ use topography::TopoCounts;
 ghost use mathlib.Core.Path.{_≡_};
 ghost use Prim.Native.Nat.{_≤_};
 ghost use lib.ListN.{length, take};
+ghost use Rattle.line.specs.Answer.{Puts};
 ghost use Rattle.statistics.specs.Statistics.{noStatistics};
 ghost use Rattle.subscriptions.specs.Calls.{meaning};
 ghost use Rattle.capture.specs.Frame.{frameOf, datagramOf};
-ghost use Rattle.framelist.specs.Listing.{slotZero, outcomeOf, counted, Hands, Lists};
+ghost use Rattle.framelist.specs.Listing.{slotZero, outcomeOf, counted, Hands, Lists, outcomeWords, outcomeLine, totalLine};
 
 // The frames totalled.
 pub struct Totals {
@@ -149,7 +150,7 @@ pub fn list(l: Listing, s: &[u8], store: &mut [u8], buffer: &mut [u8; 1472]) -> 
 
 // `refused` and the number, and the line's end.
 fn put_refusal(out: &mut [u8], at: usize, number: u8) -> usize
-    ensures { λ r. ⌜ r ≤ length (now (out .entry)) ⌝ }
+    ensures { λ r. ⌜ Puts (outcomeWords (Outcome.Refused number)) at (now (out .entry)) r (now (out .exit)) ⌝ }
 {
     let p = answer::refused(out, at, number);
     answer::text(out, p, b"\n")
@@ -157,7 +158,7 @@ fn put_refusal(out: &mut [u8], at: usize, number: u8) -> usize
 
 // The line that says what became of line n.
 pub fn put_outcome(out: &mut [u8], at: usize, n: u64, o: Outcome) -> usize
-    ensures { λ r. ⌜ r ≤ length (now (out .entry)) ⌝ }
+    ensures { λ r. ⌜ Puts (outcomeLine n o) at (now (out .entry)) r (now (out .exit)) ⌝ }
 {
     let p = answer::digits(out, at, n);
     match o {
@@ -169,7 +170,7 @@ pub fn put_outcome(out: &mut [u8], at: usize, n: u64, o: Outcome) -> usize
 
 // The line that ends the listing.
 pub fn put_total(out: &mut [u8], at: usize, t: Totals) -> usize
-    ensures { λ r. ⌜ r ≤ length (now (out .entry)) ⌝ }
+    ensures { λ r. ⌜ Puts (totalLine t) at (now (out .entry)) r (now (out .exit)) ⌝ }
 {
     let a = answer::text(out, at, b"total");
     let b = answer::decimal(out, a, std::num::wrapping_add_u64(t.delivered, t.refused));

@@ -302,7 +302,7 @@ fn list_input(
         turns = fewer(turns, t.is_over);
     }
     let n = end(r, out);
-    output::write(out, n);
+    output::flush(out, n, 0);
 }
 
 fn main() {

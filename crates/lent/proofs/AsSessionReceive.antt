@@ -1,4 +1,4 @@
--- `session::receive` as a callee, by its contract. Written by tools/lent.
+-- `sessions::receive` as a callee, by its contract. Written by tools/lent.
 -- Assumes `Given`.
 use mathlib.Core.Path.{_≡_, refl}
 use Prim.Native.Nat.{ℕ}

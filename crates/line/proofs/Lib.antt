@@ -1,2 +1,6 @@
 mod Lines
+mod Ends
+pub mod Said
 pub mod Counted
+pub mod Rooms
+pub mod Decimals

@@ -2,6 +2,7 @@
 use Prim.Native.Nat.{ℕ, _+_, _*_, _-_, _/_}
 use mathlib.Core.List.{List, [], _∷_}
 use mathlib.Core.Bool.{Bool, true, false, cond, not, _&&_}
+use mathlib.Core.Option.{Option, none, some}
 use lib.Dec.{eqb, ltb, leb}
 use lib.ListN.{length, getD}
 use Rattle.octets.specs.Octets.{part}
@@ -58,3 +59,13 @@ lastField s f room =
     cond (leb (left s (f .next)) room && ends s (octetsField s f (left s (f .next))))
     (record { count = left s (f .next); «is_bad» = false })
     (record { count = 0; «is_bad» = true })
+
+-- what a line says that ends behind a field; nothing where it is of another form
+abbrev pub withEnd : {A : Type 0} → List ℕ → Field → A → Option A
+withEnd s f said = cond (ends s f) (some said) none
+
+-- what a line says with its last field, at most 66,000 octets behind another field; nothing where it is of another form
+abbrev pub withOctets : {A : Type 0} → List ℕ → Field → (List ℕ → A) → Option A
+withOctets s f said =
+    let last = lastField s f 66000 in
+    cond (last .«is_bad») none (some (said (octetsIn s f (last .count))))

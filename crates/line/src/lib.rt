@@ -4,9 +4,11 @@ pub mod output;
 
 ghost use mathlib.Core.Path.{_≡_};
 ghost use mathlib.Core.Bool.{false, cond};
-ghost use Prim.Native.Nat.{_+_, _%_, _^_, _≤_};
+ghost use lib.Dec.{eqb};
+ghost use Prim.Native.Nat.{_+_, _%_, _^_, _≤_, min, max};
 ghost use lib.ListN.{length, take, replicate};
 ghost use Rattle.io.specs.Counts.{Counts};
+ghost use Rattle.line.specs.Answer.{room, hasEnd, firstEnd, gathered, endedOf};
 ghost use Rattle.line.specs.Line.{verbIs, hasDigits, badAt, readTo, numberField, octetsField, octetsIn, ends, left, lastField};
 
 // A field that was read, and the place behind it. Bad where the line has another form there or before.
@@ -25,6 +27,7 @@ pub struct Count {
 // Room for the octets of a line's last field: 66,000, and no more.
 pub fn buffer() -> [u8; 66000]
     ensures { λ r. ⌜ 66000 ≡ length r ⌝ }
+    ensures { λ r. ⌜ r ≡ replicate 66000 0 ⌝ }
 {
     [0; 66000]
 }
@@ -209,6 +212,7 @@ pub fn room_of(f: Field, target: &[u8]) -> usize
 // So many of the octets lent, or all where they are fewer.
 pub fn at_most(n: usize, s: &[u8]) -> usize
     ensures { λ r. ⌜ Counts r (now (s .entry)) ⌝ }
+    ensures { λ r. ⌜ r ≡ min n (length (now (s .entry))) ⌝ }
 {
     if n <= s.len() {
         return n;
@@ -216,17 +220,23 @@ pub fn at_most(n: usize, s: &[u8]) -> usize
     s.len()
 }
 
-fn greater(a: u8, b: u8) -> u8 {
+fn greater(a: u8, b: u8) -> u8
+    ensures { λ r. ⌜ r ≡ max a b ⌝ }
+{
     if a < b { b } else { a }
 }
 
 // 1 for LF, 0 for any other octet.
-fn ends_line(x: u8) -> u8 {
+fn ends_line(x: u8) -> u8
+    ensures { λ r. ⌜ r ≡ cond (eqb x 10) 1 0 ⌝ }
+{
     if x == b'\n' { 1 } else { 0 }
 }
 
 // An octet of s is LF. One pass with no way out between, so that the compiler takes many octets at once.
-fn has_end(s: &[u8]) -> bool {
+fn has_end(s: &[u8]) -> bool
+    ensures { λ r. ⌜ r ≡ hasEnd (now (s .entry)) ⌝ }
+{
     let mut found: u8 = 0;
     let mut i: usize = 0;
     while i < s.len() {
@@ -240,6 +250,7 @@ fn has_end(s: &[u8]) -> bool {
 fn near_end(block: &[u8], from: usize) -> usize
     requires { ⌜ from ≤ length (now block) ⌝ }
     ensures { λ r. ⌜ (from ≤ r) × (r ≤ length (now (block .entry))) ⌝ }
+    ensures { λ r. ⌜ firstEnd (now (block .entry)) r ≡ firstEnd (now (block .entry)) from ⌝ }
 {
     let mut i = from;
     while 64 <= block.len() - i {
@@ -256,6 +267,7 @@ fn near_end(block: &[u8], from: usize) -> usize
 pub fn line_end(block: &[u8], from: usize) -> usize
     requires { ⌜ from ≤ length (now block) ⌝ }
     ensures { λ r. ⌜ (from ≤ r) × (r ≤ length (now (block .entry))) ⌝ }
+    ensures { λ r. ⌜ r ≡ firstEnd (now (block .entry)) from ⌝ }
 {
     let mut i = near_end(block, from);
     while i < block.len() {
@@ -268,7 +280,9 @@ pub fn line_end(block: &[u8], from: usize) -> usize
 }
 
 // The line begun, with more octets; its count is beyond its room where it is too long.
-pub fn gather(line: &mut [u8], begun: usize, more: &[u8]) -> usize {
+pub fn gather(line: &mut [u8], begun: usize, more: &[u8]) -> usize
+    ensures { λ r. ⌜ room r (now (line .exit)) ≡ gathered (now (more .entry)) (room begun (now (line .entry))) ⌝ }
+{
     if line.len() < begun {
         return begun;
     }
@@ -282,6 +296,7 @@ pub fn gather(line: &mut [u8], begun: usize, more: &[u8]) -> usize {
 // How many octets a line has once it has ended: none where it is too long, and then it is answered as an empty line is.
 pub fn ended(line: &[u8], begun: usize) -> usize
     ensures { λ r. ⌜ Counts r (now (line .entry)) ⌝ }
+    ensures { λ r. ⌜ r ≡ endedOf (now (line .entry)) begun ⌝ }
 {
     if begun <= line.len() {
         return begun;

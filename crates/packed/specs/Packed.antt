@@ -1,7 +1,7 @@
 -- Listeners and sessions as 1280 octets that a host lends: sixteen listeners of 48, then sixteen sessions of 32. Numbers stand least significant octet first.
 use Prim.Native.Nat.{ℕ, zero, suc, _+_, _*_}
 use mathlib.Core.List.{List, [], _∷_, _++_, map}
-use mathlib.Core.Bool.{Bool, cond, not}
+use mathlib.Core.Bool.{cond, not}
 use lib.Dec.{eqb, ltb}
 use lib.ListN.{getD, take, drop}
 use Rattle.octets.specs.Octets.{little, littleOf, part, put}
@@ -53,7 +53,7 @@ sessionsOf s = map sessionOf (cut 16 32 s)
 abbrev pub tablesOf : List ℕ → Tables
 tablesOf s = record { listeners = listenersOf s; sessions = sessionsOf (drop 768 s) }
 
--- ---- tables as octets
+-- ---- one record as octets
 
 -- used 1 and three zeros, ComId 4, start 4, end 4, URI 32
 abbrev pub listenerOctets : Listener → List ℕ
@@ -87,14 +87,6 @@ sessionOctets x =
     ++ littleOf 4 (timingOf (x .state) .timeout)
     ++ littleOf 8 (timingOf (x .state) .start)
     ++ x .id
-
--- one behind the other
-abbrev pub joined : {X : Type 0} → (X → List ℕ) → List X → List ℕ
-joined f [] = []
-joined f (x ∷ xs) = f x ++ joined f xs
-
-abbrev pub tablesOctets : Tables → List ℕ
-tablesOctets t = joined listenerOctets (t .listeners) ++ joined sessionOctets (t .sessions)
 
 -- ---- one record written at its place; from 16 on there is no such place
 

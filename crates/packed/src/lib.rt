@@ -1,12 +1,8 @@
 // Listeners and sessions as 1280 octets that a host lends: sixteen listeners of 48, then sixteen sessions of 32.
-pub mod calls;
-pub mod slots;
-
 use address::SenderRange;
 use session::Listener;
 use session::Session;
 use session::SessionState;
-use sessions::Tables;
 use timing::Timing;
 ghost use mathlib.Core.Path.{_≡_};
 ghost use mathlib.Core.List.{[], _∷_};
@@ -15,7 +11,7 @@ ghost use lib.Dec.{eqb};
 ghost use Prim.Native.Nat.{_+_, _*_, _≤_};
 ghost use lib.ListN.{length};
 ghost use Rattle.octets.specs.Octets.{little, littleOf, part, put};
-ghost use Rattle.packed.specs.Packed.{listenerOf, stateOf, sessionOf, listenersOf, sessionsOf, tablesOf, listenerOctets, stateNumber, timingOf, sessionOctets, joined, tablesOctets};
+ghost use Rattle.packed.specs.Packed.{listenerOf, stateOf, sessionOf, listenersOf, listenerOctets, stateNumber, timingOf, sessionOctets};
 
 // The 32 octets of s at k.
 pub fn thirty_two(s: &[u8], k: usize) -> [u8; 32]
@@ -87,7 +83,7 @@ fn is_used(n: u8) -> bool
 }
 
 // The listener in 48 octets.
-fn unpack_listener(s: &[u8]) -> Listener
+pub fn unpack_listener(s: &[u8]) -> Listener
     requires { ⌜ length (now s) ≡ 48 ⌝ }
     ensures { λ r. ⌜ r ≡ listenerOf (now (s .entry)) ⌝ }
 {
@@ -145,7 +141,7 @@ pub fn unpack_session(s: &[u8]) -> Session
 }
 
 // Sixteen listeners.
-fn unpack_listeners(s: &[u8]) -> [Listener; 16]
+pub fn unpack_listeners(s: &[u8]) -> [Listener; 16]
     requires { ⌜ 768 ≤ length (now s) ⌝ }
     ensures { λ r. ⌜ r ≡ listenersOf (now (s .entry)) ⌝ }
 {
@@ -161,42 +157,6 @@ fn unpack_listeners(s: &[u8]) -> [Listener; 16]
     ls
 }
 
-// Sixteen sessions.
-fn unpack_sessions(s: &[u8]) -> [Session; 16]
-    requires { ⌜ 512 ≤ length (now s) ⌝ }
-    ensures { λ r. ⌜ r ≡ sessionsOf (now (s .entry)) ⌝ }
-{
-    let none = session::no_session();
-    let mut xs = [none; 16];
-    let mut i: usize = 0;
-    while i < 16 {
-        let a = i * 32;
-        let e = a + 32;
-        xs[i] = unpack_session(&s[a..e]);
-        i += 1;
-    }
-    xs
-}
-
-fn unpack_all(s: &[u8]) -> Tables
-    requires { ⌜ length (now s) ≡ 1280 ⌝ }
-    ensures { λ r. ⌜ r ≡ tablesOf (now (s .entry)) ⌝ }
-{
-    let ls = unpack_listeners(s);
-    let xs = unpack_sessions(&s[768..]);
-    Tables {
-        listeners: ls,
-        sessions: xs,
-    }
-}
-
-// The tables that the octets mean.
-pub fn unpack(octets: &[u8; 1280]) -> Tables
-    ensures { λ r. ⌜ r ≡ tablesOf (now (octets .entry)) ⌝ }
-{
-    unpack_all(octets)
-}
-
 fn used_number(used: bool) -> u32
     ensures { λ r. ⌜ r ≡ cond used 1 0 ⌝ }
 {
@@ -207,7 +167,7 @@ fn used_number(used: bool) -> u32
 }
 
 // A listener written over 48 octets; they mean it again.
-fn pack_listener(l: Listener, s: &mut [u8])
+pub fn pack_listener(l: Listener, s: &mut [u8])
     requires { ⌜ length (now s) ≡ 48 ⌝ }
     ensures written { λ _. ⌜ now (s .exit) ≡ listenerOctets l ⌝ }
     ensures long { λ _. ⌜ length (listenerOctets l) ≡ 48 ⌝ }
@@ -251,7 +211,7 @@ pub fn timing_of(s: SessionState) -> Timing
 }
 
 // A session written over 32 octets; they mean it again.
-fn pack_session(x: Session, s: &mut [u8])
+pub fn pack_session(x: Session, s: &mut [u8])
     requires { ⌜ length (now s) ≡ 32 ⌝ }
     ensures written { λ _. ⌜ now (s .exit) ≡ sessionOctets x ⌝ }
     ensures long { λ _. ⌜ length (sessionOctets x) ≡ 32 ⌝ }
@@ -265,56 +225,4 @@ fn pack_session(x: Session, s: &mut [u8])
     octets::put_little4(s, 4, t.timeout);
     put_little8(s, 8, t.start);
     octets::copy_into(s, 16, &id);
-}
-
-// Sixteen listeners written over 768 octets.
-fn pack_listeners(ls: [Listener; 16], s: &mut [u8])
-    requires { ⌜ length (now s) ≡ 768 ⌝ }
-    ensures written { λ _. ⌜ now (s .exit) ≡ joined listenerOctets ls ⌝ }
-    ensures long { λ _. ⌜ length (joined listenerOctets ls) ≡ 768 ⌝ }
-    ensures back { λ _. ⌜ listenersOf (joined listenerOctets ls) ≡ ls ⌝ }
-{
-    let mut i: usize = 0;
-    while i < 16 {
-        let l = ls[i];
-        let a = i * 48;
-        let e = a + 48;
-        pack_listener(l, &mut s[a..e]);
-        i += 1;
-    }
-}
-
-// Sixteen sessions written over 512 octets.
-fn pack_sessions(xs: [Session; 16], s: &mut [u8])
-    requires { ⌜ length (now s) ≡ 512 ⌝ }
-    ensures written { λ _. ⌜ now (s .exit) ≡ joined sessionOctets xs ⌝ }
-    ensures back { λ _. ⌜ sessionsOf (joined sessionOctets xs) ≡ xs ⌝ }
-{
-    let mut i: usize = 0;
-    while i < 16 {
-        let x = xs[i];
-        let a = i * 32;
-        let e = a + 32;
-        pack_session(x, &mut s[a..e]);
-        i += 1;
-    }
-}
-
-fn pack_all(t: Tables, s: &mut [u8])
-    requires { ⌜ length (now s) ≡ 1280 ⌝ }
-    ensures written { λ _. ⌜ now (s .exit) ≡ tablesOctets t ⌝ }
-    ensures back { λ _. ⌜ tablesOf (tablesOctets t) ≡ t ⌝ }
-{
-    let ls = t.listeners;
-    let xs = t.sessions;
-    pack_listeners(ls, &mut s[..768]);
-    pack_sessions(xs, &mut s[768..]);
-}
-
-// The octets become the tables, and mean them.
-pub fn pack(t: Tables, octets: &mut [u8; 1280])
-    ensures written { λ _. ⌜ now (octets .exit) ≡ tablesOctets t ⌝ }
-    ensures back { λ _. ⌜ tablesOf (tablesOctets t) ≡ t ⌝ }
-{
-    pack_all(t, octets);
 }

@@ -36,13 +36,21 @@ struct Turn {
     is_over: bool,
 }
 
-// A line answered, with its number before the answer.
+// A line answered, with its number before the answer; where there is no room at all, nothing is.
 fn reply(r: Run, descriptions: &mut [u32], store: &mut [u8], s: &[u8], out: &mut [u8]) -> Run
     ensures { λ after. ⌜ after .waiting ≤ length (now (out .entry)) ⌝ }
 {
     let n = std::num::wrapping_add_u64(r.lines, 1);
     let at = answer::digits(out, r.waiting, n);
     let before = r.state;
+    if at == 0 {
+        return Run {
+            state: before,
+            lines: n,
+            waiting: 0,
+            begun: 0,
+        };
+    }
     let o = scenario_calls::answer(before, descriptions, store, s, out, at);
     let state = o.state;
     let end = answer::text(out, o.at, b"\n");
@@ -155,9 +163,9 @@ fn finish(r: Run, descriptions: &mut [u32], store: &mut [u8], out: &mut [u8])
 {
     if 0 < r.begun {
         let last = reply(r, descriptions, store, b"", out);
-        output::write(out, last.waiting);
+        output::flush(out, last.waiting, 0);
     } else {
-        output::write(out, r.waiting);
+        output::flush(out, r.waiting, 0);
     }
 }
 

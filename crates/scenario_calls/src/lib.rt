@@ -10,8 +10,10 @@ use sessions::Tables;
 use statistics::Statistics;
 use topography::TopoCounts;
 ghost use mathlib.Core.Path.{_≡_};
-ghost use Prim.Native.Nat.{_≤_};
+ghost use mathlib.Core.List.{List};
+ghost use Prim.Native.Nat.{ℕ, _<_, _≤_};
 ghost use lib.ListN.{length};
+ghost use Rattle.scenario_calls.specs.Calls.{atStart, localEffect, statsEffect, publicationEffect, dataEffect, processEffect, messageEffect, plainEffect, describedEffect, callEffect, effectOf, Leaves, Answered};
 
 // The local topography counters, the publication, how many numbers the description run has, subscriptions, listeners and
 // sessions, and statistics.
@@ -32,7 +34,7 @@ pub struct Outcome {
 
 // Before the first call: counters 0 and 0, no publication, an empty description run, nothing subscribed, nothing counted.
 pub fn start() -> State
-    ensures { λ r. ⌜ (r .local .«etb_topo_cnt» ≡ 0) × (r .local .«op_trn_topo_cnt» ≡ 0) × (r .held ≡ Held.Nothing) × (r .numbers ≡ 0) ⌝ }
+    ensures { λ r. ⌜ r ≡ atStart ⌝ }
 {
     let counts = TopoCounts {
         etb_topo_cnt: 0,
@@ -50,7 +52,7 @@ pub fn start() -> State
 
 // `local ETB OPTRN`
 fn local(state: State, s: &[u8], out: &mut [u8], at: usize) -> Outcome
-    ensures { λ r. ⌜ r .at ≤ length (now (out .entry)) ⌝ }
+    ensures { λ r. ⌜ ((run octets : List ℕ) → Leaves (localEffect state run octets (now (s .entry))) at (now (out .entry)) r run octets (now (out .exit))) ⌝ }
 {
     let etb = line::number(s, line::behind(5), 8);
     let op_trn = line::number(s, etb, 8);
@@ -74,7 +76,7 @@ fn local(state: State, s: &[u8], out: &mut [u8], at: usize) -> Outcome
 
 // `stats`
 fn stats(state: State, s: &[u8], out: &mut [u8], at: usize) -> Outcome
-    ensures { λ r. ⌜ r .at ≤ length (now (out .entry)) ⌝ }
+    ensures { λ r. ⌜ ((run octets : List ℕ) → Leaves (statsEffect state run octets (now (s .entry))) at (now (out .entry)) r run octets (now (out .exit))) ⌝ }
 {
     if line::is_end(s, line::behind(5)) {
         let counted = state.statistics;
@@ -91,7 +93,7 @@ fn stats(state: State, s: &[u8], out: &mut [u8], at: usize) -> Outcome
 
 // A call over the publication.
 fn publication(state: State, s: &[u8], out: &mut [u8], at: usize) -> Outcome
-    ensures { λ r. ⌜ r .at ≤ length (now (out .entry)) ⌝ }
+    ensures { λ r. ⌜ ((run octets : List ℕ) → Leaves (publicationEffect state run octets (now (s .entry))) at (now (out .entry)) r run octets (now (out .exit))) ⌝ }
 {
     let before = state.held;
     let o = publications::answer(before, s, out, at);
@@ -115,7 +117,7 @@ fn publication(state: State, s: &[u8], out: &mut [u8], at: usize) -> Outcome
 
 // A call over the description run.
 fn data(state: State, descriptions: &mut [u32], s: &[u8], out: &mut [u8], at: usize) -> Outcome
-    ensures { λ r. ⌜ r .at ≤ length (now (out .entry)) ⌝ }
+    ensures { λ r. ⌜ ((octets : List ℕ) → Leaves (dataEffect state (now (descriptions .entry)) octets (now (s .entry))) at (now (out .entry)) r (now (descriptions .exit)) octets (now (out .exit))) ⌝ }
 {
     let o = scenario_data::answer(state.numbers, descriptions, s, out, at);
     let mut after = state;
@@ -128,7 +130,7 @@ fn data(state: State, descriptions: &mut [u32], s: &[u8], out: &mut [u8], at: us
 
 // A call over subscriptions.
 fn process_data(state: State, store: &mut [u8], s: &[u8], out: &mut [u8], at: usize) -> Outcome
-    ensures { λ r. ⌜ r .at ≤ length (now (out .entry)) ⌝ }
+    ensures { λ r. ⌜ ((run : List ℕ) → Leaves (processEffect state run (now (store .entry)) (now (s .entry))) at (now (out .entry)) r run (now (store .exit)) (now (out .exit))) ⌝ }
 {
     let before = state.slots;
     let local = state.local;
@@ -147,7 +149,7 @@ fn process_data(state: State, store: &mut [u8], s: &[u8], out: &mut [u8], at: us
 
 // A call over listeners and sessions.
 fn message_data(state: State, s: &[u8], out: &mut [u8], at: usize) -> Outcome
-    ensures { λ r. ⌜ r .at ≤ length (now (out .entry)) ⌝ }
+    ensures { λ r. ⌜ ((run octets : List ℕ) → Leaves (messageEffect state run octets (now (s .entry))) at (now (out .entry)) r run octets (now (out .exit))) ⌝ }
 {
     let before = state.tables;
     let local = state.local;
@@ -166,7 +168,9 @@ fn message_data(state: State, s: &[u8], out: &mut [u8], at: usize) -> Outcome
 
 // A call that knows no lent memory answered.
 fn plain(state: State, s: &[u8], out: &mut [u8], at: usize) -> Outcome
-    ensures { λ r. ⌜ r .at ≤ length (now (out .entry)) ⌝ }
+    requires { ⌜ 0 < at ⌝ }
+    requires { ⌜ at ≤ length (now out) ⌝ }
+    ensures { λ r. ⌜ ((run octets : List ℕ) → Leaves (plainEffect state run octets (now (s .entry))) at (now (out .entry)) r run octets (now (out .exit))) ⌝ }
 {
     if line::is_verb(s, b"local") {
         return local(state, s, out, at);
@@ -190,7 +194,9 @@ fn plain(state: State, s: &[u8], out: &mut [u8], at: usize) -> Outcome
 
 // A call over the description run answered, or one that knows no lent memory.
 fn described(state: State, descriptions: &mut [u32], s: &[u8], out: &mut [u8], at: usize) -> Outcome
-    ensures { λ r. ⌜ r .at ≤ length (now (out .entry)) ⌝ }
+    requires { ⌜ 0 < at ⌝ }
+    requires { ⌜ at ≤ length (now out) ⌝ }
+    ensures { λ r. ⌜ ((octets : List ℕ) → Leaves (describedEffect state (now (descriptions .entry)) octets (now (s .entry))) at (now (out .entry)) r (now (descriptions .exit)) octets (now (out .exit))) ⌝ }
 {
     let o = data(state, descriptions, s, out, at);
     if o.at != 0 {
@@ -208,7 +214,9 @@ fn call(
     out: &mut [u8],
     at: usize,
 ) -> Outcome
-    ensures { λ r. ⌜ r .at ≤ length (now (out .entry)) ⌝ }
+    requires { ⌜ 0 < at ⌝ }
+    requires { ⌜ at ≤ length (now out) ⌝ }
+    ensures { λ r. ⌜ Leaves (callEffect state (now (descriptions .entry)) (now (store .entry)) (now (s .entry))) at (now (out .entry)) r (now (descriptions .exit)) (now (store .exit)) (now (out .exit)) ⌝ }
 {
     let o = process_data(state, store, s, out, at);
     if o.at != 0 {
@@ -226,7 +234,9 @@ pub fn answer(
     out: &mut [u8],
     at: usize,
 ) -> Outcome
-    ensures { λ r. ⌜ r .at ≤ length (now (out .entry)) ⌝ }
+    requires { ⌜ 0 < at ⌝ }
+    requires { ⌜ at ≤ length (now out) ⌝ }
+    ensures { λ r. ⌜ Answered (effectOf state (now (descriptions .entry)) (now (store .entry)) (now (s .entry))) at (now (out .entry)) r (now (descriptions .exit)) (now (store .exit)) (now (out .exit)) ⌝ }
 {
     let o = call(state, descriptions, store, s, out, at);
     if o.at != 0 {

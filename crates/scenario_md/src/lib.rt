@@ -9,10 +9,13 @@ use sessions::Told;
 use statistics::Statistics;
 use topography::TopoCounts;
 ghost use mathlib.Core.Path.{_≡_};
-ghost use Prim.Native.Nat.{_≤_};
-ghost use lib.ListN.{length, replicate};
+ghost use mathlib.Core.Option.{some};
+ghost use lib.ListN.{replicate};
 ghost use Rattle.session.specs.Listener.{freeListener};
 ghost use Rattle.session.specs.Session.{freeSession};
+ghost use Rattle.sessions.specs.Table.{telegram};
+ghost use Rattle.scenario_md.specs.Lines.{calls, listenAsked, unlistenAsked, callAsked, mdAsked, replyAsked, confirmAsked, checkAsked, sessionAsked, userAsked, askedOf};
+ghost use Rattle.scenario_md.specs.Served.{Tells, Serves, Answered};
 
 // The tables after a user's call, and the place behind its answer; 0 where the line is none of these.
 pub struct Called {
@@ -41,14 +44,14 @@ pub fn start() -> Tables
 
 // A line of another form: nothing changes.
 fn bad(t: Tables) -> Called
-    ensures { λ r. ⌜ r .at ≤ 0 ⌝ }
+    ensures { λ r. ⌜ r ≡ record { tables = t; at = 0 } ⌝ }
 {
     Called { tables: t, at: 0 }
 }
 
 // What a user's call answers.
 fn tell(told: Told, out: &mut [u8], at: usize) -> Called
-    ensures { λ r. ⌜ r .at ≤ length (now (out .entry)) ⌝ }
+    ensures { λ r. ⌜ Tells told at (now (out .entry)) r (now (out .exit)) ⌝ }
 {
     let t = told.tables;
     let a = told.answer;
@@ -60,7 +63,7 @@ fn tell(told: Told, out: &mut [u8], at: usize) -> Called
 
 // `listen COMID START END URI`
 fn listen(t: Tables, s: &[u8], out: &mut [u8], at: usize) -> Called
-    ensures { λ r. ⌜ r .at ≤ length (now (out .entry)) ⌝ }
+    ensures { λ r. ⌜ Serves (listenAsked (now (s .entry))) t at (now (out .entry)) r (now (out .exit)) ⌝ }
 {
     let mut uri = [0u8; 32];
     let com_id = line::number(s, line::behind(6), 8);
@@ -80,7 +83,7 @@ fn listen(t: Tables, s: &[u8], out: &mut [u8], at: usize) -> Called
 
 // `unlisten K`
 fn unlisten(t: Tables, s: &[u8], out: &mut [u8], at: usize) -> Called
-    ensures { λ r. ⌜ r .at ≤ length (now (out .entry)) ⌝ }
+    ensures { λ r. ⌜ Serves (unlistenAsked (now (s .entry))) t at (now (out .entry)) r (now (out .exit)) ⌝ }
 {
     let k = line::number(s, line::behind(8), 8);
     if line::is_end(s, k) {
@@ -92,7 +95,7 @@ fn unlisten(t: Tables, s: &[u8], out: &mut [u8], at: usize) -> Called
 
 // `call ID TIMEOUT NOW`
 fn call(t: Tables, s: &[u8], out: &mut [u8], at: usize) -> Called
-    ensures { λ r. ⌜ r .at ≤ length (now (out .entry)) ⌝ }
+    ensures { λ r. ⌜ Serves (callAsked (now (s .entry))) t at (now (out .entry)) r (now (out .exit)) ⌝ }
 {
     let mut id = [0u8; 16];
     let field = line::octets_field(s, line::behind(4), &mut id);
@@ -107,7 +110,7 @@ fn call(t: Tables, s: &[u8], out: &mut [u8], at: usize) -> Called
 
 // `reply K TYPE TIMEOUT NOW`
 fn reply(t: Tables, s: &[u8], out: &mut [u8], at: usize) -> Called
-    ensures { λ r. ⌜ r .at ≤ length (now (out .entry)) ⌝ }
+    ensures { λ r. ⌜ Serves (replyAsked (now (s .entry))) t at (now (out .entry)) r (now (out .exit)) ⌝ }
 {
     let k = line::number(s, line::behind(5), 8);
     let kind = line::number(s, k, 4);
@@ -128,7 +131,7 @@ fn reply(t: Tables, s: &[u8], out: &mut [u8], at: usize) -> Called
 
 // `confirm K NOW`
 fn confirm(t: Tables, s: &[u8], out: &mut [u8], at: usize) -> Called
-    ensures { λ r. ⌜ r .at ≤ length (now (out .entry)) ⌝ }
+    ensures { λ r. ⌜ Serves (confirmAsked (now (s .entry))) t at (now (out .entry)) r (now (out .exit)) ⌝ }
 {
     let k = line::number(s, line::behind(7), 8);
     let time = line::number(s, k, 16);
@@ -141,7 +144,7 @@ fn confirm(t: Tables, s: &[u8], out: &mut [u8], at: usize) -> Called
 
 // `mdcheck NOW`
 fn check(t: Tables, s: &[u8], out: &mut [u8], at: usize) -> Called
-    ensures { λ r. ⌜ r .at ≤ length (now (out .entry)) ⌝ }
+    ensures { λ r. ⌜ Serves (checkAsked (now (s .entry))) t at (now (out .entry)) r (now (out .exit)) ⌝ }
 {
     let time = line::number(s, line::behind(7), 16);
     if line::is_end(s, time) {
@@ -158,7 +161,7 @@ fn check(t: Tables, s: &[u8], out: &mut [u8], at: usize) -> Called
 
 // `session K`
 fn session(t: Tables, s: &[u8], out: &mut [u8], at: usize) -> Called
-    ensures { λ r. ⌜ r .at ≤ length (now (out .entry)) ⌝ }
+    ensures { λ r. ⌜ Serves (sessionAsked (now (s .entry))) t at (now (out .entry)) r (now (out .exit)) ⌝ }
 {
     let k = line::number(s, line::behind(7), 8);
     if line::is_end(s, k) {
@@ -178,7 +181,7 @@ fn receive(
     out: &mut [u8],
     at: usize,
 ) -> Outcome
-    ensures { λ r. ⌜ r .at ≤ length (now (out .entry)) ⌝ }
+    ensures { λ r. ⌜ Answered (some (calls (telegram a (now (datagram .entry))))) t statistics at (now (out .entry)) r (now (out .exit)) ⌝ }
 {
     let m = lent::receive_message(t, statistics, a, datagram);
     let after = m.tables;
@@ -200,7 +203,7 @@ fn md(
     out: &mut [u8],
     at: usize,
 ) -> Outcome
-    ensures { λ r. ⌜ r .at ≤ length (now (out .entry)) ⌝ }
+    ensures { λ r. ⌜ Answered (mdAsked local (now (s .entry))) t statistics at (now (out .entry)) r (now (out .exit)) ⌝ }
 {
     let sender = line::number(s, line::behind(2), 8);
     let destination = line::number(s, sender, 8);
@@ -226,7 +229,7 @@ fn md(
 
 // A line of one of the user's verbs answered.
 fn user(t: Tables, s: &[u8], out: &mut [u8], at: usize) -> Called
-    ensures { λ r. ⌜ r .at ≤ length (now (out .entry)) ⌝ }
+    ensures { λ r. ⌜ Serves (userAsked (now (s .entry))) t at (now (out .entry)) r (now (out .exit)) ⌝ }
 {
     if line::is_verb(s, b"listen") {
         return listen(t, s, out, at);
@@ -261,7 +264,7 @@ pub fn answer(
     out: &mut [u8],
     at: usize,
 ) -> Outcome
-    ensures { λ r. ⌜ r .at ≤ length (now (out .entry)) ⌝ }
+    ensures { λ r. ⌜ Answered (askedOf local (now (s .entry))) t statistics at (now (out .entry)) r (now (out .exit)) ⌝ }
 {
     if line::is_verb(s, b"md") {
         return md(t, statistics, local, s, out, at);

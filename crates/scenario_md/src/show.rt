@@ -5,12 +5,14 @@ use session::SessionState;
 use sessions::Answer;
 use sessions::Tables;
 use timing::Timing;
-ghost use Prim.Native.Nat.{_≤_};
-ghost use lib.ListN.{length};
+ghost use Rattle.line.specs.Answer.{Puts};
+ghost use Rattle.sessions.specs.Calls.{meaning};
+ghost use Rattle.sessions.specs.Table.{requested, taken, codes as codesTold};
+ghost use Rattle.scenario_md.specs.Words.{answerWords, statusWords, heardWords, usedWords, recordWords, slotWords};
 
 // A request: the listener and the session's slot.
 fn put_opened(out: &mut [u8], at: usize, l: usize, k: usize) -> usize
-    ensures { λ r. ⌜ r ≤ length (now (out .entry)) ⌝ }
+    ensures { λ r. ⌜ Puts (answerWords (requested l k)) at (now (out .entry)) r (now (out .exit)) ⌝ }
 {
     let p = answer::word_of(out, at, b"opened", l);
     answer::decimal(out, p, k as u64)
@@ -18,7 +20,7 @@ fn put_opened(out: &mut [u8], at: usize, l: usize, k: usize) -> usize
 
 // A telegram of a session: replyStatus, and its slot.
 fn put_taken(out: &mut [u8], at: usize, status: i32, k: usize) -> usize
-    ensures { λ r. ⌜ r ≤ length (now (out .entry)) ⌝ }
+    ensures { λ r. ⌜ Puts (answerWords (taken status k)) at (now (out .entry)) r (now (out .exit)) ⌝ }
 {
     let p = answer::word(out, at, b"taken");
     let p = answer::number8(out, p, octets::to_unsigned(status));
@@ -27,7 +29,7 @@ fn put_taken(out: &mut [u8], at: usize, status: i32, k: usize) -> usize
 
 // An answer; of a refusal its number.
 pub fn put_answer(out: &mut [u8], at: usize, a: Answer) -> usize
-    ensures { λ r. ⌜ r ≤ length (now (out .entry)) ⌝ }
+    ensures { λ r. ⌜ Puts (answerWords (meaning a)) at (now (out .entry)) r (now (out .exit)) ⌝ }
 {
     match a {
         Answer::Listening(l) => answer::word_of(out, at, b"listener", l),
@@ -42,20 +44,34 @@ pub fn put_answer(out: &mut [u8], at: usize, a: Answer) -> usize
     }
 }
 
-// The answer to a telegram; of a refusal its number, and the status for the Me to be sent.
-pub fn put_heard(out: &mut [u8], at: usize, a: Answer) -> usize
-    ensures { λ r. ⌜ r ≤ length (now (out .entry)) ⌝ }
+// Of a refusal the status for the Me to be sent.
+fn put_status(out: &mut [u8], at: usize, a: Answer) -> usize
+    ensures { λ r. ⌜ Puts (statusWords (meaning a)) at (now (out .entry)) r (now (out .exit)) ⌝ }
 {
-    let Answer::Refused(r, status) = a else {
-        return put_answer(out, at, a);
-    };
-    let p = answer::refused(out, at, r);
-    answer::number8(out, p, octets::to_unsigned(status))
+    match a {
+        Answer::Listening(_) => at,
+        Answer::Freed => at,
+        Answer::Opened(_) => at,
+        Answer::Notified(_) => at,
+        Answer::Requested(_, _) => at,
+        Answer::Taken(_, _) => at,
+        Answer::Replied => at,
+        Answer::Confirmed => at,
+        Answer::Refused(_, status) => answer::number8(out, at, octets::to_unsigned(status)),
+    }
+}
+
+// The answer to a telegram.
+pub fn put_heard(out: &mut [u8], at: usize, a: Answer) -> usize
+    ensures { λ r. ⌜ Puts (heardWords (meaning a)) at (now (out .entry)) r (now (out .exit)) ⌝ }
+{
+    let p = put_answer(out, at, a);
+    put_status(out, p, a)
 }
 
 // Sixteen codes.
 pub fn put_codes(out: &mut [u8], at: usize, codes: [i32; 16]) -> usize
-    ensures { λ r. ⌜ r ≤ length (now (out .entry)) ⌝ }
+    ensures { λ r. ⌜ Puts (answerWords (codesTold codes)) at (now (out .entry)) r (now (out .exit)) ⌝ }
 {
     let mut p = answer::word(out, at, b"codes");
     let mut i: usize = 0;
@@ -68,7 +84,7 @@ pub fn put_codes(out: &mut [u8], at: usize, codes: [i32; 16]) -> usize
 
 // A session in use: its identifier, and what it waits for since when and how long.
 fn put_waiting(out: &mut [u8], at: usize, id: [u8; 16], state: &[u8], t: Timing) -> usize
-    ensures { λ r. ⌜ r ≤ length (now (out .entry)) ⌝ }
+    ensures { λ r. ⌜ Puts (usedWords id (now (state .entry)) t) at (now (out .entry)) r (now (out .exit)) ⌝ }
 {
     let p = answer::word(out, at, b"used");
     let p = answer::octets(out, p, &id);
@@ -79,7 +95,7 @@ fn put_waiting(out: &mut [u8], at: usize, id: [u8; 16], state: &[u8], t: Timing)
 
 // A session's record.
 fn put_session(out: &mut [u8], at: usize, x: Session) -> usize
-    ensures { λ r. ⌜ r ≤ length (now (out .entry)) ⌝ }
+    ensures { λ r. ⌜ Puts (recordWords (x .id) (x .state)) at (now (out .entry)) r (now (out .exit)) ⌝ }
 {
     let id = x.id;
     let state = x.state;
@@ -94,7 +110,7 @@ fn put_session(out: &mut [u8], at: usize, x: Session) -> usize
 
 // The record of a session slot; 10 where there is no such slot.
 pub fn put_place(out: &mut [u8], at: usize, t: Tables, k: usize) -> usize
-    ensures { λ r. ⌜ r ≤ length (now (out .entry)) ⌝ }
+    ensures { λ r. ⌜ Puts (slotWords k (t .sessions)) at (now (out .entry)) r (now (out .exit)) ⌝ }
 {
     if k < 16 {
         let xs = t.sessions;

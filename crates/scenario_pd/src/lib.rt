@@ -1,6 +1,5 @@
 // The calls over subscriptions. The program holds forty records and lends the first of them; the store is lent memory.
 pub mod look;
-pub mod show;
 
 use address::SenderRange;
 use arrival::Arrival;
@@ -11,9 +10,17 @@ use subscription::Filter;
 use subscription::Subscription;
 use topography::TopoCounts;
 ghost use mathlib.Core.Path.{_≡_};
-ghost use Prim.Native.Nat.{_≤_};
-ghost use lib.ListN.{length, replicate};
+ghost use mathlib.Core.List.{List};
+ghost use mathlib.Core.Option.{some};
+ghost use Prim.Native.Nat.{ℕ};
+ghost use lib.ListN.{replicate};
+ghost use Rattle.line.specs.Answer.{Puts, refused};
 ghost use Rattle.subscription.specs.Record.{freeRecord};
+ghost use Rattle.subscription.specs.Table as table;
+ghost use Rattle.subscriptions.specs.Calls.{meaning};
+ghost use Rattle.scenario_pd_words.specs.Words.{answerWords};
+ghost use Rattle.scenario_pd.specs.Effect.{withRecords, calling, counting, Turns};
+ghost use Rattle.scenario_pd.specs.Lines.{subCall, unsubCall, checkCall, pdCall, lending, allotted, damaging, damaged, otherEffect, Answered};
 
 // The records, and how many of them and how many octets of the store each call is lent.
 pub struct Slots {
@@ -49,14 +56,14 @@ pub fn start() -> Slots
 
 // A line of another form: nothing changes.
 fn bad(t: Slots) -> Turned
-    ensures { λ r. ⌜ r .at ≤ 0 ⌝ }
+    ensures { λ r. ⌜ r ≡ record { slots = t; at = 0 } ⌝ }
 {
     Turned { slots: t, at: 0 }
 }
 
 // What a call leaves and answers.
 fn turn(t: Slots, c: Called, out: &mut [u8], at: usize) -> Turned
-    ensures { λ r. ⌜ r .at ≤ length (now (out .entry)) ⌝ }
+    ensures { λ r. ⌜ (Puts (answerWords (meaning (c .answer))) at (now (out .entry)) (r .at) (now (out .exit))) × (r .slots ≡ withRecords (c .slots) t) ⌝ }
 {
     let records = c.slots;
     let a = c.answer;
@@ -64,7 +71,7 @@ fn turn(t: Slots, c: Called, out: &mut [u8], at: usize) -> Turned
     after.records = records;
     Turned {
         slots: after,
-        at: show::put_answer(out, at, a),
+        at: scenario_pd_words::put_answer(out, at, a),
     }
 }
 
@@ -78,7 +85,7 @@ fn subscribe(
     out: &mut [u8],
     at: usize,
 ) -> Turned
-    ensures { λ r. ⌜ r .at ≤ length (now (out .entry)) ⌝ }
+    ensures { λ r. ⌜ Turns (calling (some (table.subscribe (record { filter = f; timeout = timeout; behaviour = behaviour }) time)) t (now (store .entry))) at (now (out .entry)) (r .slots) (now (store .exit)) (r .at) (now (out .exit)) ⌝ }
 {
     let records = t.records;
     let n = line::at_most(t.octets, store);
@@ -96,7 +103,7 @@ fn subscribe(
 
 // `sub COMID START END DEST TIMEOUT BEHAVIOUR NOW`
 fn sub(t: Slots, store: &mut [u8], s: &[u8], out: &mut [u8], at: usize) -> Turned
-    ensures { λ r. ⌜ r .at ≤ length (now (out .entry)) ⌝ }
+    ensures { λ r. ⌜ Turns (calling (subCall (now (s .entry))) t (now (store .entry))) at (now (out .entry)) (r .slots) (now (store .exit)) (r .at) (now (out .exit)) ⌝ }
 {
     let com_id = line::number(s, line::behind(3), 8);
     let start = line::number(s, com_id, 8);
@@ -128,13 +135,14 @@ fn sub(t: Slots, store: &mut [u8], s: &[u8], out: &mut [u8], at: usize) -> Turne
                 at,
             );
         }
+        return bad(t);
     }
     bad(t)
 }
 
 // `unsub K`
 fn unsub(t: Slots, store: &mut [u8], s: &[u8], out: &mut [u8], at: usize) -> Turned
-    ensures { λ r. ⌜ r .at ≤ length (now (out .entry)) ⌝ }
+    ensures { λ r. ⌜ Turns (calling (unsubCall (now (s .entry))) t (now (store .entry))) at (now (out .entry)) (r .slots) (now (store .exit)) (r .at) (now (out .exit)) ⌝ }
 {
     let k = line::number(s, line::behind(5), 8);
     if line::is_end(s, k) {
@@ -148,7 +156,7 @@ fn unsub(t: Slots, store: &mut [u8], s: &[u8], out: &mut [u8], at: usize) -> Tur
 
 // `check NOW`
 fn check(t: Slots, store: &mut [u8], s: &[u8], out: &mut [u8], at: usize) -> Turned
-    ensures { λ r. ⌜ r .at ≤ length (now (out .entry)) ⌝ }
+    ensures { λ r. ⌜ Turns (calling (checkCall (now (s .entry))) t (now (store .entry))) at (now (out .entry)) (r .slots) (now (store .exit)) (r .at) (now (out .exit)) ⌝ }
 {
     let time = line::number(s, line::behind(5), 16);
     if line::is_end(s, time) {
@@ -160,29 +168,57 @@ fn check(t: Slots, store: &mut [u8], s: &[u8], out: &mut [u8], at: usize) -> Tur
     bad(t)
 }
 
-// `lend SLOTS COUNT`
-fn lend(t: Slots, store: &[u8], s: &[u8], out: &mut [u8], at: usize) -> Turned
-    ensures { λ r. ⌜ r .at ≤ length (now (out .entry)) ⌝ }
+// So many slots and octets lent from now on; a bad line where there are not so many.
+fn allot(t: Slots, n: usize, m: usize, store: &[u8], out: &mut [u8], at: usize) -> Turned
+    ensures { λ r. ⌜ Turns (allotted n m t (now (store .entry))) at (now (out .entry)) (r .slots) (now (store .entry)) (r .at) (now (out .exit)) ⌝ }
 {
-    let slots = line::number(s, line::behind(4), 8);
-    let count = line::number(s, slots, 8);
-    let n = line::word(slots) as usize;
-    let m = line::word(count) as usize;
-    if line::is_end(s, count) && n <= 40 && m <= store.len() {
-        let mut after = t;
-        after.lent = n;
-        after.octets = m;
-        return Turned {
-            slots: after,
-            at: answer::word(out, at, b"ok"),
-        };
+    if n <= 40 {
+        if m <= store.len() {
+            let mut after = t;
+            after.lent = n;
+            after.octets = m;
+            return Turned {
+                slots: after,
+                at: answer::word(out, at, b"ok"),
+            };
+        }
+        return bad(t);
     }
     bad(t)
 }
 
+// `lend SLOTS COUNT`
+fn lend(t: Slots, store: &[u8], s: &[u8], out: &mut [u8], at: usize) -> Turned
+    ensures { λ r. ⌜ Turns (lending (now (s .entry)) t (now (store .entry))) at (now (out .entry)) (r .slots) (now (store .entry)) (r .at) (now (out .exit)) ⌝ }
+{
+    let slots = line::number(s, line::behind(4), 8);
+    let count = line::number(s, slots, 8);
+    if line::is_end(s, count) {
+        return allot(
+            t,
+            line::word(slots) as usize,
+            line::word(count) as usize,
+            store,
+            out,
+            at,
+        );
+    }
+    bad(t)
+}
+
+// No such slot.
+fn refuse(t: Slots, out: &mut [u8], at: usize) -> Turned
+    ensures { λ r. ⌜ (Puts (refused 10) at (now (out .entry)) (r .at) (now (out .exit))) × (r .slots ≡ t) ⌝ }
+{
+    Turned {
+        slots: t,
+        at: answer::refused(out, at, refusal::NO_SLOT),
+    }
+}
+
 // A record that says another stored length.
 fn lengthen(t: Slots, k: usize, n: u32, out: &mut [u8], at: usize) -> Turned
-    ensures { λ r. ⌜ r .at ≤ length (now (out .entry)) ⌝ }
+    ensures { λ r. ⌜ ((store : List ℕ) → Turns (damaged k n t store) at (now (out .entry)) (r .slots) store (r .at) (now (out .exit))) ⌝ }
 {
     if k < 32 {
         let mut records = t.records;
@@ -197,16 +233,14 @@ fn lengthen(t: Slots, k: usize, n: u32, out: &mut [u8], at: usize) -> Turned
                 at: answer::word(out, at, b"ok"),
             };
         }
+        return refuse(t, out, at);
     }
-    Turned {
-        slots: t,
-        at: answer::refused(out, at, refusal::NO_SLOT),
-    }
+    refuse(t, out, at)
 }
 
 // `damage K LENGTH`
 fn damage(t: Slots, s: &[u8], out: &mut [u8], at: usize) -> Turned
-    ensures { λ r. ⌜ r .at ≤ length (now (out .entry)) ⌝ }
+    ensures { λ r. ⌜ ((store : List ℕ) → Turns (damaging (now (s .entry)) t store) at (now (out .entry)) (r .slots) store (r .at) (now (out .exit))) ⌝ }
 {
     let k = line::number(s, line::behind(6), 8);
     let n = line::number(s, k, 8);
@@ -225,7 +259,7 @@ fn receive(
     out: &mut [u8],
     at: usize,
 ) -> Outcome
-    ensures { λ r. ⌜ r .at ≤ length (now (out .entry)) ⌝ }
+    ensures { λ r. ⌜ (Turns (calling (some (table.telegram a (now (datagram .entry)))) t (now (store .entry))) at (now (out .entry)) (r .slots) (now (store .exit)) (r .at) (now (out .exit))) × (r .statistics ≡ counting (some (table.telegram a (now (datagram .entry)))) t (now (store .entry)) statistics) ⌝ }
 {
     let records = t.records;
     let n = line::at_most(t.octets, store);
@@ -238,7 +272,7 @@ fn receive(
     Outcome {
         slots: after,
         statistics: counted,
-        at: show::put_answer(out, at, said),
+        at: scenario_pd_words::put_answer(out, at, said),
     }
 }
 
@@ -252,7 +286,7 @@ fn pd(
     out: &mut [u8],
     at: usize,
 ) -> Outcome
-    ensures { λ r. ⌜ r .at ≤ length (now (out .entry)) ⌝ }
+    ensures { λ r. ⌜ (Turns (calling (pdCall local (now (s .entry))) t (now (store .entry))) at (now (out .entry)) (r .slots) (now (store .exit)) (r .at) (now (out .exit))) × (r .statistics ≡ counting (pdCall local (now (s .entry))) t (now (store .entry)) statistics) ⌝ }
 {
     let sender = line::number(s, line::behind(2), 8);
     let destination = line::number(s, sender, 8);
@@ -278,7 +312,7 @@ fn pd(
 
 // A line of a verb that brings no telegram answered.
 fn other(t: Slots, store: &mut [u8], s: &[u8], out: &mut [u8], at: usize) -> Turned
-    ensures { λ r. ⌜ r .at ≤ length (now (out .entry)) ⌝ }
+    ensures { λ r. ⌜ Turns (otherEffect (now (s .entry)) t (now (store .entry))) at (now (out .entry)) (r .slots) (now (store .exit)) (r .at) (now (out .exit)) ⌝ }
 {
     if line::is_verb(s, b"sub") {
         return sub(t, store, s, out, at);
@@ -311,7 +345,7 @@ pub fn answer(
     out: &mut [u8],
     at: usize,
 ) -> Outcome
-    ensures { λ r. ⌜ r .at ≤ length (now (out .entry)) ⌝ }
+    ensures { λ r. ⌜ Answered local (now (s .entry)) t (now (store .entry)) statistics at (now (out .entry)) (r .slots) (now (store .exit)) (r .statistics) (r .at) (now (out .exit)) ⌝ }
 {
     if line::is_verb(s, b"pd") {
         return pd(t, statistics, local, store, s, out, at);

@@ -1,14 +1,21 @@
 // The calls that only look at subscriptions: `read`, `slot` and `part`.
 use crate::Slots;
-use crate::show;
 use line::answer;
 use subscription::Subscription;
 use subscriptions::Reading;
-ghost use Prim.Native.Nat.{_≤_};
-ghost use lib.ListN.{length};
+ghost use mathlib.Core.Path.{_≡_};
+ghost use lib.ListN.{getD};
+ghost use Rattle.line.specs.Answer.{Puts, Answers};
+ghost use Rattle.subscription.specs.Record.{freeRecord};
+ghost use Rattle.subscription.specs.Table as table;
+ghost use Rattle.lent.specs.Lent.{lentTable};
+ghost use Rattle.scenario_pd_words.specs.Words.{answerWords};
+ghost use Rattle.scenario_pd.specs.Look.{readAnswer, slotAnswer, slotWords, partWords, partAnswer, lookAnswer};
 
 // The record of slot k; a number too large is read as a free slot.
-fn record_at(records: [Subscription; 40], k: usize) -> Subscription {
+fn record_at(records: [Subscription; 40], k: usize) -> Subscription
+    ensures { λ r. ⌜ r ≡ getD records k freeRecord ⌝ }
+{
     if k < 40 {
         return records[k];
     }
@@ -24,7 +31,7 @@ fn read_slot<'a>(
     out: &mut [u8],
     at: usize,
 ) -> usize
-    ensures { λ r. ⌜ r ≤ length (now (out .entry)) ⌝ }
+    ensures { λ r. ⌜ Puts (answerWords (table.step (table.read k (now (substitute .entry))) (lentTable (t .lent) (t .records) (now (store .entry))) .answer)) at (now (out .entry)) r (now (out .exit)) ⌝ }
 {
     let records = t.records;
     let q = lent::read(records, t.lent, store, k);
@@ -32,7 +39,7 @@ fn read_slot<'a>(
         Reading::Shows(v) => {
             let state = v.state;
             let r = record_at(records, k);
-            let p = show::put_state(out, at, state);
+            let p = scenario_pd_words::put_state(out, at, state);
             answer::octets(out, p, subscription::show(r, k, store, substitute))
         }
         Reading::Refused(n) => answer::refused(out, at, n),
@@ -41,7 +48,7 @@ fn read_slot<'a>(
 
 // `read K OCTETS`
 fn read(t: Slots, store: &[u8], s: &[u8], out: &mut [u8], at: usize) -> usize
-    ensures { λ r. ⌜ r ≤ length (now (out .entry)) ⌝ }
+    ensures { λ r. ⌜ Answers (readAnswer t (now (store .entry)) (now (s .entry))) at (now (out .entry)) r (now (out .exit)) ⌝ }
 {
     let k = line::number(s, line::behind(4), 8);
     let mut data = line::buffer();
@@ -54,26 +61,31 @@ fn read(t: Slots, store: &[u8], s: &[u8], out: &mut [u8], at: usize) -> usize
     read_slot(t, line::word(k) as usize, &store[..e], &data[..n], out, at)
 }
 
+// The record of slot k, in words; 10 where there is no such slot.
+fn put_slot(out: &mut [u8], at: usize, t: Slots, k: usize) -> usize
+    ensures { λ r. ⌜ Puts (slotWords k t) at (now (out .entry)) r (now (out .exit)) ⌝ }
+{
+    if k < 32 {
+        let records = t.records;
+        return scenario_pd_words::put_record(out, at, record_at(records, k));
+    }
+    answer::refused(out, at, refusal::NO_SLOT)
+}
+
 // `slot K`
 fn slot(t: Slots, s: &[u8], out: &mut [u8], at: usize) -> usize
-    ensures { λ r. ⌜ r ≤ length (now (out .entry)) ⌝ }
+    ensures { λ r. ⌜ Answers (slotAnswer t (now (s .entry))) at (now (out .entry)) r (now (out .exit)) ⌝ }
 {
     let k = line::number(s, line::behind(4), 8);
     if line::is_end(s, k) {
-        let n = line::word(k) as usize;
-        if n < 32 {
-            let records = t.records;
-            let r = record_at(records, n);
-            return show::put_record(out, at, r);
-        }
-        return answer::refused(out, at, refusal::NO_SLOT);
+        return put_slot(out, at, t, line::word(k) as usize);
     }
     0
 }
 
 // The frame check of slot k's 1432 stored octets; 10 where there is no such slot.
 fn put_part(out: &mut [u8], at: usize, store: &[u8], k: usize) -> usize
-    ensures { λ r. ⌜ r ≤ length (now (out .entry)) ⌝ }
+    ensures { λ r. ⌜ Puts (partWords k (now (store .entry))) at (now (out .entry)) r (now (out .exit)) ⌝ }
 {
     if k < 32 {
         let from = k * 1432;
@@ -82,13 +94,14 @@ fn put_part(out: &mut [u8], at: usize, store: &[u8], k: usize) -> usize
             let p = answer::word(out, at, b"part");
             return answer::number8(out, p, fcs::frame_check(&store[from..to]));
         }
+        return answer::refused(out, at, refusal::NO_SLOT);
     }
     answer::refused(out, at, refusal::NO_SLOT)
 }
 
 // `part K`
 fn part(store: &[u8], s: &[u8], out: &mut [u8], at: usize) -> usize
-    ensures { λ r. ⌜ r ≤ length (now (out .entry)) ⌝ }
+    ensures { λ r. ⌜ Answers (partAnswer (now (store .entry)) (now (s .entry))) at (now (out .entry)) r (now (out .exit)) ⌝ }
 {
     let k = line::number(s, line::behind(4), 8);
     if line::is_end(s, k) {
@@ -99,7 +112,7 @@ fn part(store: &[u8], s: &[u8], out: &mut [u8], at: usize) -> usize
 
 // A line of one of these verbs answered.
 pub fn answer(t: Slots, store: &[u8], s: &[u8], out: &mut [u8], at: usize) -> usize
-    ensures { λ r. ⌜ r ≤ length (now (out .entry)) ⌝ }
+    ensures { λ r. ⌜ Answers (lookAnswer t (now (store .entry)) (now (s .entry))) at (now (out .entry)) r (now (out .exit)) ⌝ }
 {
     if line::is_verb(s, b"read") {
         return read(t, store, s, out, at);

@@ -11,8 +11,10 @@ use pd::PdTaken;
 use telegram::Common;
 use telegram::Written;
 ghost use mathlib.Core.Path.{_≡_};
-ghost use Prim.Native.Nat.{_≤_};
-ghost use lib.ListN.{length};
+ghost use Rattle.line.specs.Answer.{Puts, Answers};
+ghost use Rattle.scenario_wire.specs.Wire.{commonFields, pdFields, commonWords, pdWords, sessionWords, mdWords, pdtakeWords, mdtakeWords};
+ghost use Rattle.scenario_wire.specs.Wire.{writtenWords, pdWroteWords, mdWroteWords};
+ghost use Rattle.scenario_wire.specs.Wire.{crcAnswer, pdtakeAnswer, mdtakeAnswer, pdwriteAnswer, mdwriteAnswer, wireAnswer};
 
 // Header fields that were read, and the last of them.
 pub struct CommonFields {
@@ -27,7 +29,7 @@ pub struct PdFields {
 
 // VERSION TYPE COMID ETB OPTRN behind a sequence counter.
 fn common_fields(s: &[u8], counter: Field) -> CommonFields
-    ensures { λ r. ⌜ r .common .«dataset_length» ≡ 0 ⌝ }
+    ensures { λ r. ⌜ r ≡ commonFields (now (s .entry)) counter ⌝ }
 {
     let version = line::number(s, counter, 4);
     let kind = line::number(s, version, 4);
@@ -50,7 +52,7 @@ fn common_fields(s: &[u8], counter: Field) -> CommonFields
 
 // The same and RESERVED REPLYCOMID REPLYIP.
 pub fn pd_fields(s: &[u8], counter: Field) -> PdFields
-    ensures { λ r. ⌜ r .header .common .«dataset_length» ≡ 0 ⌝ }
+    ensures { λ r. ⌜ r ≡ pdFields (now (s .entry)) counter ⌝ }
 {
     let c = common_fields(s, counter);
     let common = c.common;
@@ -70,7 +72,7 @@ pub fn pd_fields(s: &[u8], counter: Field) -> PdFields
 
 // SEQ VERSION TYPE COMID ETB OPTRN LENGTH
 fn put_common(out: &mut [u8], at: usize, c: Common) -> usize
-    ensures { λ r. ⌜ r ≤ length (now (out .entry)) ⌝ }
+    ensures { λ r. ⌜ Puts (commonWords c) at (now (out .entry)) r (now (out .exit)) ⌝ }
 {
     let p = answer::number8(out, at, c.sequence_counter);
     let p = answer::number4(out, p, c.protocol_version);
@@ -83,7 +85,7 @@ fn put_common(out: &mut [u8], at: usize, c: Common) -> usize
 
 // `header` and the fields of a PD header
 fn put_pd(out: &mut [u8], at: usize, h: PdHeader) -> usize
-    ensures { λ r. ⌜ r ≤ length (now (out .entry)) ⌝ }
+    ensures { λ r. ⌜ Puts (pdWords h) at (now (out .entry)) r (now (out .exit)) ⌝ }
 {
     let c = h.common;
     let p = answer::word(out, at, b"header");
@@ -95,7 +97,7 @@ fn put_pd(out: &mut [u8], at: usize, h: PdHeader) -> usize
 
 // STATUS ID TIMEOUT SRCURI DSTURI; identifier and URIs stand in the datagram
 fn put_session(out: &mut [u8], at: usize, h: MdHeader, d: &[u8]) -> usize
-    ensures { λ r. ⌜ r ≤ length (now (out .entry)) ⌝ }
+    ensures { λ r. ⌜ Puts (sessionWords h (now (d .entry))) at (now (out .entry)) r (now (out .exit)) ⌝ }
 {
     let id = md::session_id(d);
     let p = answer::number8(out, at, octets::to_unsigned(h.reply_status));
@@ -107,7 +109,7 @@ fn put_session(out: &mut [u8], at: usize, h: MdHeader, d: &[u8]) -> usize
 
 // `header` and the fields of an MD header
 fn put_md(out: &mut [u8], at: usize, h: MdHeader, d: &[u8]) -> usize
-    ensures { λ r. ⌜ r ≤ length (now (out .entry)) ⌝ }
+    ensures { λ r. ⌜ Puts (mdWords h (now (d .entry))) at (now (out .entry)) r (now (out .exit)) ⌝ }
 {
     let c = h.common;
     let p = answer::word(out, at, b"header");
@@ -117,7 +119,7 @@ fn put_md(out: &mut [u8], at: usize, h: MdHeader, d: &[u8]) -> usize
 
 // How many octets were written and the whole target, or the refusal.
 pub fn put_written(out: &mut [u8], at: usize, done: &[u8], w: Written, target: &[u8]) -> usize
-    ensures { λ r. ⌜ r ≤ length (now (out .entry)) ⌝ }
+    ensures { λ r. ⌜ Puts (writtenWords (now (done .entry)) w (now (target .entry))) at (now (out .entry)) r (now (out .exit)) ⌝ }
 {
     match w {
         Written::Octets(n) => {
@@ -131,7 +133,7 @@ pub fn put_written(out: &mut [u8], at: usize, done: &[u8], w: Written, target: &
 
 // `crc OCTETS`
 fn crc(s: &[u8], out: &mut [u8], at: usize) -> usize
-    ensures { λ r. ⌜ r ≤ length (now (out .entry)) ⌝ }
+    ensures { λ r. ⌜ Answers (crcAnswer (now (s .entry))) at (now (out .entry)) r (now (out .exit)) ⌝ }
 {
     let mut data = line::buffer();
     let d = line::octets(s, line::behind(3), &mut data);
@@ -144,7 +146,7 @@ fn crc(s: &[u8], out: &mut [u8], at: usize) -> usize
 }
 
 fn take_pd(d: &[u8], out: &mut [u8], at: usize) -> usize
-    ensures { λ r. ⌜ r ≤ length (now (out .entry)) ⌝ }
+    ensures { λ r. ⌜ Puts (pdtakeWords (now (d .entry))) at (now (out .entry)) r (now (out .exit)) ⌝ }
 {
     match pd::take_pd(d) {
         PdTaken::Header(h) => put_pd(out, at, h),
@@ -154,7 +156,7 @@ fn take_pd(d: &[u8], out: &mut [u8], at: usize) -> usize
 
 // `pdtake OCTETS`
 fn pd_take(s: &[u8], out: &mut [u8], at: usize) -> usize
-    ensures { λ r. ⌜ r ≤ length (now (out .entry)) ⌝ }
+    ensures { λ r. ⌜ Answers (pdtakeAnswer (now (s .entry))) at (now (out .entry)) r (now (out .exit)) ⌝ }
 {
     let mut data = line::buffer();
     let d = line::octets(s, line::behind(6), &mut data);
@@ -166,7 +168,7 @@ fn pd_take(s: &[u8], out: &mut [u8], at: usize) -> usize
 }
 
 fn take_md(d: &[u8], out: &mut [u8], at: usize) -> usize
-    ensures { λ r. ⌜ r ≤ length (now (out .entry)) ⌝ }
+    ensures { λ r. ⌜ Puts (mdtakeWords (now (d .entry))) at (now (out .entry)) r (now (out .exit)) ⌝ }
 {
     match md::take_md(d) {
         MdTaken::Header(h) => put_md(out, at, h, d),
@@ -176,7 +178,7 @@ fn take_md(d: &[u8], out: &mut [u8], at: usize) -> usize
 
 // `mdtake OCTETS`
 fn md_take(s: &[u8], out: &mut [u8], at: usize) -> usize
-    ensures { λ r. ⌜ r ≤ length (now (out .entry)) ⌝ }
+    ensures { λ r. ⌜ Answers (mdtakeAnswer (now (s .entry))) at (now (out .entry)) r (now (out .exit)) ⌝ }
 {
     let mut data = line::buffer();
     let d = line::octets(s, line::behind(6), &mut data);
@@ -188,7 +190,7 @@ fn md_take(s: &[u8], out: &mut [u8], at: usize) -> usize
 }
 
 fn write_pd(h: PdHeader, dataset: &[u8], target: &mut [u8], out: &mut [u8], at: usize) -> usize
-    ensures { λ r. ⌜ r ≤ length (now (out .entry)) ⌝ }
+    ensures { λ r. ⌜ Puts (pdWroteWords h (now (target .entry)) (now (dataset .entry))) at (now (out .entry)) r (now (out .exit)) ⌝ }
 {
     let w = pd::write_pd(h, dataset, target);
     put_written(out, at, b"wrote", w, target)
@@ -196,7 +198,7 @@ fn write_pd(h: PdHeader, dataset: &[u8], target: &mut [u8], out: &mut [u8], at: 
 
 // `pdwrite SEQ VERSION TYPE COMID ETB OPTRN RESERVED REPLYCOMID REPLYIP ROOM OCTETS`
 fn pd_write(s: &[u8], out: &mut [u8], at: usize) -> usize
-    ensures { λ r. ⌜ r ≤ length (now (out .entry)) ⌝ }
+    ensures { λ r. ⌜ Answers (pdwriteAnswer (now (s .entry))) at (now (out .entry)) r (now (out .exit)) ⌝ }
 {
     let f = pd_fields(s, line::number(s, line::behind(7), 8));
     let h = f.header;
@@ -222,7 +224,7 @@ fn write_md(
     out: &mut [u8],
     at: usize,
 ) -> usize
-    ensures { λ r. ⌜ r ≤ length (now (out .entry)) ⌝ }
+    ensures { λ r. ⌜ Puts (mdWroteWords h (now (id .entry)) (now (source .entry)) (now (destination .entry)) (now (target .entry)) (now (dataset .entry))) at (now (out .entry)) r (now (out .exit)) ⌝ }
 {
     let w = md::write_md(h, id, source, destination, dataset, target);
     put_written(out, at, b"wrote", w, target)
@@ -230,7 +232,7 @@ fn write_md(
 
 // `mdwrite SEQ VERSION TYPE COMID ETB OPTRN STATUS ID TIMEOUT SRCURI DSTURI ROOM OCTETS`
 fn md_write(s: &[u8], out: &mut [u8], at: usize) -> usize
-    ensures { λ r. ⌜ r ≤ length (now (out .entry)) ⌝ }
+    ensures { λ r. ⌜ Answers (mdwriteAnswer (now (s .entry))) at (now (out .entry)) r (now (out .exit)) ⌝ }
 {
     let mut id = [0u8; 16];
     let mut source = [0u8; 32];
@@ -268,7 +270,7 @@ fn md_write(s: &[u8], out: &mut [u8], at: usize) -> usize
 
 // A line of one of these verbs answered.
 pub fn answer(s: &[u8], out: &mut [u8], at: usize) -> usize
-    ensures { λ r. ⌜ r ≤ length (now (out .entry)) ⌝ }
+    ensures { λ r. ⌜ Answers (wireAnswer (now (s .entry))) at (now (out .entry)) r (now (out .exit)) ⌝ }
 {
     if line::is_verb(s, b"crc") {
         return crc(s, out, at);

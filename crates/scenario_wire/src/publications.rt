@@ -1,8 +1,8 @@
 // The calls over one publication: `pub` and `send`.
 use line::answer;
 use publication::Publication;
-ghost use Prim.Native.Nat.{_≤_};
-ghost use lib.ListN.{length};
+ghost use mathlib.Core.Option.{some};
+ghost use Rattle.scenario_wire.specs.Publications.{pubSaid, sentSaid, sendSaid, publicationSaid, Publishes};
 
 // The publication, once one is made.
 pub enum Held {
@@ -18,7 +18,7 @@ pub struct Outcome {
 
 // `pub VERSION TYPE COMID ETB OPTRN RESERVED REPLYCOMID REPLYIP CYCLE`
 fn publish(held: Held, s: &[u8], out: &mut [u8], at: usize) -> Outcome
-    ensures { λ r. ⌜ r .at ≤ length (now (out .entry)) ⌝ }
+    ensures { λ r. ⌜ Publishes (pubSaid (now (s .entry))) held at (now (out .entry)) r (now (out .exit)) ⌝ }
 {
     let f = crate::pd_fields(s, line::behind(3));
     let h = f.header;
@@ -41,7 +41,7 @@ fn send_into(
     out: &mut [u8],
     at: usize,
 ) -> Outcome
-    ensures { λ r. ⌜ r .at ≤ length (now (out .entry)) ⌝ }
+    ensures { λ r. ⌜ Publishes (some (sentSaid p time (now (target .entry)) (now (dataset .entry)))) (Held.Made p) at (now (out .entry)) r (now (out .exit)) ⌝ }
 {
     let sent = publication::send(p, time, dataset, target);
     let after = sent.publication;
@@ -54,7 +54,7 @@ fn send_into(
 
 // `send NOW ROOM OCTETS`
 fn send(held: Held, s: &[u8], out: &mut [u8], at: usize) -> Outcome
-    ensures { λ r. ⌜ r .at ≤ length (now (out .entry)) ⌝ }
+    ensures { λ r. ⌜ Publishes (sendSaid held (now (s .entry))) held at (now (out .entry)) r (now (out .exit)) ⌝ }
 {
     let Held::Made(p) = held else {
         return Outcome { held: held, at: 0 };
@@ -74,7 +74,7 @@ fn send(held: Held, s: &[u8], out: &mut [u8], at: usize) -> Outcome
 
 // A line of one of these verbs answered.
 pub fn answer(held: Held, s: &[u8], out: &mut [u8], at: usize) -> Outcome
-    ensures { λ r. ⌜ r .at ≤ length (now (out .entry)) ⌝ }
+    ensures { λ r. ⌜ Publishes (publicationSaid held (now (s .entry))) held at (now (out .entry)) r (now (out .exit)) ⌝ }
 {
     if line::is_verb(s, b"pub") {
         return publish(held, s, out, at);

@@ -1,4 +1,4 @@
--- `session::outcome_of` as a callee. Written by tools/walk.
+-- `sessions::outcome_of` as a callee. Written by tools/walk.
 -- Assumes `Given`.
 use mathlib.Core.Path.{_≡_, refl}
 use Prim.Native.Nat.{ℕ, _+_, _*_, _≤_, _<_}

@@ -2,7 +2,7 @@ pub mod Answers
 pub mod Arrays
 pub mod Places
 pub mod Listening
-mod Filled
+pub mod Filled
 pub mod Searches
 pub mod Arrived
 pub mod Values

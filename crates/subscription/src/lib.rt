@@ -195,9 +195,9 @@ pub fn subscribe(f: Filter, timeout: u32, behaviour: u8, time: u64) -> Subscript
 pub fn is_wanted(r: Subscription, h: Heard) -> bool
     ensures { λ b. ⌜ b ≡ recordWants h r ⌝ }
 {
-    if r.used {
-        let f = r.filter;
-        return is_match(f, h);
+    let f = r.filter;
+    if is_match(f, h) {
+        return r.used;
     }
     false
 }

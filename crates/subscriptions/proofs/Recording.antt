@@ -1,10 +1,11 @@
 -- A telegram that was delivered or refused, in terms of the table's rules and of the statistics.
 -- Assumes nothing.
 use Prim.Native.Nat.{ℕ}
-use mathlib.Core.Path.{_≡_, refl, sym, _∙_, ap}
+use mathlib.Core.Path.{_≡_, refl, sym, _∙_, ap, subst}
 use mathlib.Core.Bool.{Bool, true, false, cond, not}
 use mathlib.Core.List.{List}
 use lib.Dec.{eqb}
+use borrow.Author.Tests.{eqb-true}
 use lib.ListN.{length}
 use Rattle.refusal.specs.Refusal.{firstOf}
 use Rattle.telegram.specs.declared.Family.the-variants.{Pd}
@@ -74,3 +75,8 @@ module _ (a : Arrival) (d : List ℕ) (rs : List Subscription) (st : List ℕ) w
   pub counted-receives : (s : Statistics) → uncounted (meaning deliveredAnswer) ≡ false
       → Receives a d rs st s (meaning deliveredAnswer) deliveredRecords deliveredStore (added Pd (outcomeOf (meaning deliveredAnswer)) s)
   counted-receives s e = record { answers = answer-is; records-after = refl; store-after = refl; statistics-after = sym (ap (λ b. cond b s (added Pd (outcomeOf (meaning deliveredAnswer)) s)) e) }
+
+  -- a telegram that was delivered is counted with 0
+  pub delivered-receives : (s : Statistics) → uncounted (meaning deliveredAnswer) ≡ false → eqb (outcomeOf (meaning deliveredAnswer)) 0 ≡ true
+      → Receives a d rs st s (meaning deliveredAnswer) deliveredRecords deliveredStore (added Pd 0 s)
+  delivered-receives s e z = subst (λ (n : ℕ). Receives a d rs st s (meaning deliveredAnswer) deliveredRecords deliveredStore (added Pd n s)) (eqb-true (outcomeOf (meaning deliveredAnswer)) 0 z) (counted-receives s e)

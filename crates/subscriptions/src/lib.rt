@@ -500,6 +500,11 @@ pub fn receive(
         return r;
     }
     let n = outcome_of(r);
+    // A delivered telegram leaves the counters of refusals as they are.
+    if n == 0 {
+        statistics::record(s, Family::Pd, 0);
+        return r;
+    }
     statistics::record(s, Family::Pd, n);
     r
 }

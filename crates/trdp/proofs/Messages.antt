@@ -5,6 +5,7 @@ use native.Mathlib.Omega.{arith}
 use mathlib.Core.Path.{_≡_, refl, sym, ap, subst, _∙_}
 use mathlib.Core.List.{List}
 use mathlib.Core.Bool.{Bool, cond}
+use lib.IntN.{ℤ}
 use lib.ListN.{length, getD}
 use lib.Seq.{take-all}
 use borrow.Author.Tests.{lt-ltb}
@@ -16,14 +17,12 @@ use Rattle.statistics.specs.declared.Statistics.{Statistics}
 use Rattle.telegram.specs.declared.Family.the-variants.{Md}
 use Rattle.sessions.specs.Calls as session
 use Rattle.session.specs.Session.{freeSession}
-use Rattle.sessions.specs.Table.{Call, step, telegram, timeCheck}
+use Rattle.sessions.specs.Table.{Call, step, telegram}
 use Rattle.sessions.specs.declared.Answer.{Answer}
-use Rattle.sessions.specs.declared.Checked.{Checked}
 use Rattle.session.specs.declared.Session.{Session}
-use Rattle.sessions.specs.declared.Tables.{Tables}
-use Rattle.packed.specs.Calls as packed
-use Rattle.packed.specs.Calls.{leftBy}
-use Rattle.packed.specs.Packed.{tablesOf, tablesOctets}
+use Rattle.packed_calls.specs.Calls as packed
+use Rattle.packed_calls.specs.Calls.{leftBy}
+use Rattle.packed.specs.Packed.{tablesOf}
 use Rattle.trdp.specs.declared.Outcome.{Outcome}
 use Rattle.trdp.specs.declared.MdOutcome.{MdOutcome}
 use Rattle.trdp.specs.declared.SessionSeen.{SessionSeen}
@@ -32,17 +31,6 @@ use Rattle.trdp.specs.Sessions.{outcomeOf, Follows, mdOutcomeOf, Arrives
 -- an array lent whole
 pub whole : (n : ℕ) (s : List ℕ) → length s ≡ n → part n 0 s ≡ s
 whole n s e = let h : length s ≤ n = omega (arith, e) in take-all n s h
-
--- octets that were unpacked to t, and written with what a call left
-module _ (c : Call) (o o′ : List ℕ) (t after : Tables) (e : t ≡ tablesOf o) (left : after ≡ step c t .after) (written : o′ ≡ tablesOctets after) (back : tablesOf (tablesOctets after) ≡ after) where
-  left-by : after ≡ step c (tablesOf o) .after
-  left-by = left ∙ ap (λ (x : Tables). step c x .after) e
-
-  pub means : tablesOf o′ ≡ step c (tablesOf o) .after
-  means = ap tablesOf written ∙ back ∙ left-by
-
-  pub leaves : o′ ≡ tablesOctets (step c (tablesOf o) .after)
-  leaves = written ∙ ap tablesOctets left-by
 
 -- what a call over the octets answers and leaves
 pub follows : (c : Call) (o o′ : List ℕ) (x : Answer) → packed.Follows c o x o′ → (r : Outcome) → r ≡ outcomeOf (session.meaning x) → Follows c o r o′
@@ -55,14 +43,8 @@ follows-as c u v o o′ x e f r q = subst (λ (w : List ℕ). Follows (c w) o r 
 pub arrives : (a : Arrival) (d o o′ : List ℕ) (x : Answer) → packed.Follows (telegram a d) o x o′ → (r : MdOutcome) → r ≡ mdOutcomeOf (session.meaning x) → Arrives a d o r o′
 arrives a d o o′ x f r q = record { answers = q ∙ ap mdOutcomeOf (f .does .answers); means = f .does .leaves; leaves = f .leaves }
 
-pub checks : (time : ℕ) (o o′ : List ℕ) (t : Tables) (x : Checked) → t ≡ tablesOf o → session.Checks time t x → o′ ≡ tablesOctets (x .tables) → tablesOf (tablesOctets (x .tables)) ≡ x .tables
-    → Checks time o (record { codes = x .codes }) o′
-checks time o o′ t x e f written back =
-    record {
-      answers = f .answers ∙ ap (λ (y : Tables). step (timeCheck time) y .answer) e;
-      means = means (timeCheck time) o o′ t (x .tables) e (f .leaves) written back;
-      leaves = leaves (timeCheck time) o o′ t (x .tables) e (f .leaves) written back;
-    }
+pub checks : (time : ℕ) (o o′ : List ℕ) (codes : List ℤ) → packed.Checks time o codes o′ → Checks time o (record { codes = codes }) o′
+checks time o o′ codes f = record { answers = f .does .answers; means = f .does .leaves; leaves = f .leaves }
 
 -- the statistics count what the rules answer
 pub received : (a : Arrival) (d o : List ℕ) (s : Statistics) → let q = step (telegram a d) (tablesOf o) in tablesOf (leftBy (telegram a d) (q .answer) (q .after) o) ≡ q .after

@@ -15,8 +15,8 @@ use Rattle.session.specs.Session.{freeSession}
 use Rattle.sessions.specs.Table as table
 use Rattle.sessions.specs.Table.{Call, step, telegram, timeCheck}
 use Rattle.session.specs.declared.Session.{Session}
-use Rattle.packed.specs.Calls.{leftBy}
-use Rattle.packed.specs.Packed.{tablesOf, tablesOctets, stateNumber, timingOf}
+use Rattle.packed_calls.specs.Calls.{leftBy, expiredIn}
+use Rattle.packed.specs.Packed.{tablesOf, stateNumber, timingOf}
 use Rattle.trdp.specs.declared.Outcome.{Outcome}
 use Rattle.trdp.specs.declared.MdOutcome.{MdOutcome}
 use Rattle.trdp.specs.declared.Codes.{Codes}
@@ -70,11 +70,11 @@ pub record Receives (a : Arrival) (datagram octets : List ℕ) (statistics : Sta
   pub arrives : Arrives a datagram octets r octets′
   pub counts : statistics′ ≡ added Md (r .refusal) statistics
 
--- the time check: a code for each session slot
+-- the time check: a code for each session slot; the sessions that it frees are written
 pub record Checks (time : ℕ) (octets : List ℕ) (r : Codes) (octets′ : List ℕ) : Type 0 where
   pub answers : table.codes (r .codes) ≡ step (timeCheck time) (tablesOf octets) .answer
   pub means : tablesOf octets′ ≡ step (timeCheck time) (tablesOf octets) .after
-  pub leaves : octets′ ≡ tablesOctets (step (timeCheck time) (tablesOf octets) .after)
+  pub leaves : octets′ ≡ expiredIn time 16 octets
 
 -- a session as a host sees it; start and timeout are zeros where it is free
 abbrev pub seen : Session → SessionSeen

@@ -39,7 +39,6 @@ ghost use Rattle.subscriptions.specs.declared.Reading.the-variants as reading;
 ghost use Rattle.trdp.specs.Subscriptions.{outcomeOf, Follows, Receives, stateNumber, ofReading, isShown, Reads};
 ghost use Rattle.sessions.specs.Calls as session;
 ghost use Rattle.sessions.specs.Table as messages;
-ghost use Rattle.packed.specs.Packed.{tablesOf, tablesOctets};
 ghost use Rattle.trdp.specs.Sessions as sessions;
 ghost use Rattle.trdp.specs.Wire.{noCommon, noPdHeader, noMdHeader, noMdDatagram, ofWritten, ofConverted, ofPdTaken, ofMdTaken, ofSent, Writes, SendsOut, ConvertsTo};
 
@@ -521,7 +520,7 @@ pub extern "C" fn trdp_listen(
     ensures { λ r. ⌜ sessions.Follows (messages.listen «com_id» senders (now (uri .entry))) (now (tables .entry)) r (now (tables .exit)) ⌝ }
 {
     let u = packed::thirty_two(uri, 0);
-    let a = packed::calls::listen(tables, com_id, senders, u);
+    let a = packed_calls::listen(tables, com_id, senders, u);
     of_told(a)
 }
 
@@ -530,7 +529,7 @@ pub extern "C" fn trdp_listen(
 pub extern "C" fn trdp_unlisten(tables: &mut [u8; 1280], k: usize) -> Outcome
     ensures { λ r. ⌜ sessions.Follows (messages.unlisten k) (now (tables .entry)) r (now (tables .exit)) ⌝ }
 {
-    let a = packed::calls::unlisten(tables, k);
+    let a = packed_calls::unlisten(tables, k);
     of_told(a)
 }
 
@@ -545,7 +544,7 @@ pub extern "C" fn trdp_call(
     ensures { λ r. ⌜ sessions.Follows (messages.calling (now (id .entry)) timeout time) (now (tables .entry)) r (now (tables .exit)) ⌝ }
 {
     let i = octets::sixteen(id, 0);
-    let a = packed::calls::call(tables, i, timeout, time);
+    let a = packed_calls::call(tables, i, timeout, time);
     of_told(a)
 }
 
@@ -560,7 +559,7 @@ pub extern "C" fn trdp_reply(
 ) -> Outcome
     ensures { λ r. ⌜ sessions.Follows (messages.reply k «msg_type» timeout time) (now (tables .entry)) r (now (tables .exit)) ⌝ }
 {
-    let a = packed::calls::reply(tables, k, msg_type, timeout, time);
+    let a = packed_calls::reply(tables, k, msg_type, timeout, time);
     of_told(a)
 }
 
@@ -569,7 +568,7 @@ pub extern "C" fn trdp_reply(
 pub extern "C" fn trdp_confirm(tables: &mut [u8; 1280], k: usize) -> Outcome
     ensures { λ r. ⌜ sessions.Follows (messages.confirm k) (now (tables .entry)) r (now (tables .exit)) ⌝ }
 {
-    let a = packed::calls::confirm(tables, k);
+    let a = packed_calls::confirm(tables, k);
     of_told(a)
 }
 
@@ -578,11 +577,7 @@ pub extern "C" fn trdp_confirm(tables: &mut [u8; 1280], k: usize) -> Outcome
 pub extern "C" fn trdp_check_sessions(tables: &mut [u8; 1280], time: u64) -> Codes
     ensures { λ r. ⌜ sessions.Checks time (now (tables .entry)) r (now (tables .exit)) ⌝ }
 {
-    let t = packed::unpack(tables);
-    let x = sessions::time_check(t, time);
-    let after = x.tables;
-    let codes = x.codes;
-    packed::pack(after, tables);
+    let codes = packed_calls::time_check(tables, time);
     Codes { codes: codes }
 }
 
@@ -608,7 +603,7 @@ pub extern "C" fn trdp_session(tables: &[u8; 1280], k: usize) -> SessionSeen
     ensures { λ r. ⌜ r ≡ sessions.sessionSeen (now (tables .entry)) k ⌝ }
 {
     if k < 16 {
-        let x = packed::slots::session_at(tables, k);
+        let x = packed_calls::slots::session_at(tables, k);
         return of_session(x);
     }
     SessionSeen {
@@ -652,7 +647,7 @@ fn of_received(a: sessions::Answer) -> MdOutcome
 fn arrive_md(tables: &mut [u8; 1280], a: Arrival, datagram: &[u8]) -> MdOutcome
     ensures { λ r. ⌜ sessions.Arrives a (now (datagram .entry)) (now (tables .entry)) r (now (tables .exit)) ⌝ }
 {
-    let answer = packed::calls::arrive(tables, a, datagram);
+    let answer = packed_calls::arrive(tables, a, datagram);
     of_received(answer)
 }
 

@@ -32,8 +32,8 @@ loop-again c = (omega arith, omega arith, omega arith, omega arith, omega arith)
 end-requires : tie.Need-end-requires Inv-loop μ-loop
 end-requires c κs = search needs
 
-write-requires : tie.Need-write-requires Inv-loop μ-loop
-write-requires c κs = search needs
+flush-requires : tie.Need-flush-requires Inv-loop μ-loop
+flush-requires c κs = search needs
 
 same-length : tie.Need-same-length Inv-loop μ-loop
 same-length c = search needs
@@ -62,7 +62,7 @@ list-input-spec =
     loop-less
     loop-again
     end-requires
-    write-requires
+    flush-requires
     same-length
     same-length-2
     same-length-3

@@ -1,4 +1,4 @@
--- `session::receive` meets its contract: a walk of its MIR, by the laws of `Steps.antt`. Written by tools/walk.
+-- `sessions::receive` meets its contract: a walk of its MIR, by the laws of `Steps.antt`. Written by tools/walk.
 -- Assumes nothing.
 use mathlib.Core.Path.{_≡_, refl, sym, ap, subst, _∙_}
 use mathlib.Core.Option.{some as someᴼ, none as noneᴼ}

@@ -1,16 +1,26 @@
--- A slot in use is asked for its filter.
+-- A slot whose filter matches is asked whether it is in use.
+use mathlib.Core.Path.{_≡_, refl}
+use mathlib.Core.Bool.{Bool, true, false, _&&_}
 use borrow.Author.Needs.{needs}
 use Rattle.subscription.proofs.is_wanted.Statement.{statement}
 use Rattle.subscription.proofs.is_wanted.Tie as tie
+
+and-true : (b : Bool) → b ≡ b && true
+and-true true = refl
+and-true false = refl
+
+and-false : (b : Bool) → false ≡ b && false
+and-false true = refl
+and-false false = refl
 
 is-match-requires : tie.Need-is-match-requires
 is-match-requires c κs = search needs
 
 returns : tie.Need-returns
-returns c = rw (c .before .before .if1 .taken) (c .is-match .ensures)
+returns c = rw (← c .before .is-match .ensures, c .if1 .taken) (and-true (c .before .before .before .args .r .used))
 
 returns-2 : tie.Need-returns-2
-returns-2 c = search needs
+returns-2 c = rw (← c .before .is-match .ensures, c .if1 .left) (and-false (c .before .before .before .args .r .used))
 
 pub is-wanted-spec : {M : Type 1} → statement M
 is-wanted-spec = tie.close (tie.spec is-match-requires returns returns-2)

@@ -80,7 +80,7 @@ use Rattle.statistics.specs.declared.Statistics.{Statistics}
 use Rattle.telegram.specs.declared.Family.{Family}
 use Rattle.telegram.specs.declared.Family.the-variants.{Pd}
 use Rattle.subscriptions.specs.Receive.{Receives, uncounted, outcomeOf}
-use Rattle.subscriptions.proofs.Recording.{deliveredAnswer, deliveredRecords, deliveredStore, answered, uncounted-receives, counted-receives}
+use Rattle.subscriptions.proofs.Recording.{deliveredAnswer, deliveredRecords, deliveredStore, answered, uncounted-receives, counted-receives, delivered-receives}
 use Rattle.subscription.specs.declared.Filter.{Filter}
 use Rattle.subscriptions.specs.declared.Swept.{Swept}
 use Rattle.subscriptions.specs.declared.Answer.{Answer}
@@ -158,21 +158,29 @@ module _ {M : Type 1} (𝓤 : URA M) (H : Heap 𝓤) (A : Atoms 𝓤) (W : Given
         move ! (0 ∷ []) $ split ! $ move ! (2 ∷ []) $ split ! $ move ! (4 ∷ []) $ split ! $ move ! (6 ∷ []) $ split ! $ nothing ! $ move ! (2 ∷ 0 ∷ []) $ join ! $ move ! (3 ∷ 0 ∷ []) $ join ! $ move ! (4 ∷ 0 ∷ []) $ join ! $ move ! (5 ∷ 0 ∷ []) $ join ! $ frame ! $ nothing ! $ move ! (1 ∷ 0 ∷ []) $ fjoin ! $ owned ! (arrivalBy 𝓤 H A W .R) (Is (arrivalBy 𝓤 H A W .R)) (arrivalBy 𝓤 H A W .makes) ar _ ar-is $ fjoin ! $ move ! (1 ∷ 0 ∷ []) $ fjoin ! $ move ! (1 ∷ 0 ∷ []) $ fjoin ! $ move ! (1 ∷ 0 ∷ []) $ fjoin ! $ owned ! (answerBy 𝓤 H A W .R) (Is (answerBy 𝓤 H A W .R)) (answerBy 𝓤 H A W .makes) r _ r-is $ move ! (1 ∷ 0 ∷ []) $ done !
 
     module _ (𝓣 : Tables 𝓤 H) (k-deliver : Triple 𝓤 (𝓣 .C #deliver) (AsDeliver.G 𝓤 H A W mem run)) (k-is-uncounted : Triple 𝓤 (𝓣 .C #is-uncounted) (AsIsUncounted.G 𝓤 H A W mem run)) (k-outcome-of : Triple 𝓤 (𝓣 .C #outcome-of) (AsOutcomeOf.G 𝓤 H A W mem run)) (k-record : Triple 𝓤 (𝓣 .C #record) (AsRecord.G 𝓤 H A W mem run)) where
-      module _ (l₀ l₁ l₂ l₃ l₄ l₅ l₆ l₇ l₈ l₉ l₁₀ l₁₁ l₁₂ l₁₃ l₁₄ l₁₅ : ℕ) where
+      module _ (l₀ l₁ l₂ l₃ l₄ l₅ l₆ l₇ l₈ l₉ l₁₀ l₁₁ l₁₂ l₁₃ l₁₄ l₁₅ l₁₆ l₁₇ l₁₈ l₁₉ : ℕ) where
         abbrev En : Env 𝓤 H
-        En = (N′.mir, l₀) ∷ (sliceTy (tyRef (named 0) mut (pointee (X.the-row .written))), l₁) ∷ (sliceTy (tyRef (named 1) mut (pointee (u8 .written))), l₂) ∷ (tyRef (named 2) mut (pointee (Z.the-row .written)), l₃) ∷ (P′.mir, l₄) ∷ (sliceTy (tyRef (named 3) imm (pointee (u8 .written))), l₅) ∷ (N′.mir, l₆) ∷ (tyInt w8, l₇) ∷ (tyRef erased mut (pointee (X.the-row .written)), l₈) ∷ (sliceTy (tyRef erased mut (pointee (X.the-row .written))), l₉) ∷ (tyRef erased mut (pointee (u8 .written)), l₁₀) ∷ (sliceTy (tyRef erased mut (pointee (u8 .written))), l₁₁) ∷ (tyBool, l₁₂) ∷ (tyUnit, l₁₃) ∷ (tyRef erased mut (pointee (Z.the-row .written)), l₁₄) ∷ (Y′.mir, l₁₅) ∷ []
+        En = (N′.mir, l₀) ∷ (sliceTy (tyRef (named 0) mut (pointee (X.the-row .written))), l₁) ∷ (sliceTy (tyRef (named 1) mut (pointee (u8 .written))), l₂) ∷ (tyRef (named 2) mut (pointee (Z.the-row .written)), l₃) ∷ (P′.mir, l₄) ∷ (sliceTy (tyRef (named 3) imm (pointee (u8 .written))), l₅) ∷ (N′.mir, l₆) ∷ (tyInt w8, l₇) ∷ (tyRef erased mut (pointee (X.the-row .written)), l₈) ∷ (sliceTy (tyRef erased mut (pointee (X.the-row .written))), l₉) ∷ (tyRef erased mut (pointee (u8 .written)), l₁₀) ∷ (sliceTy (tyRef erased mut (pointee (u8 .written))), l₁₁) ∷ (tyBool, l₁₂) ∷ (tyBool, l₁₃) ∷ (tyUnit, l₁₄) ∷ (tyRef erased mut (pointee (Z.the-row .written)), l₁₅) ∷ (Y′.mir, l₁₆) ∷ (tyUnit, l₁₇) ∷ (tyRef erased mut (pointee (Z.the-row .written)), l₁₈) ∷ (Y′.mir, l₁₉) ∷ []
 
         abbrev Begins : List (Item 𝓤)
         Begins = (slice-own 𝓤 H A W (subscriptionBy 𝓤 H A W .R) (named 0) l-κ l-q l-γ l-b l-o (length l) (l))
             ∷ (slice-own 𝓤 H A W (unsignedInt 𝓤 H A W w8 .R) (named 1) st-κ st-q st-γ st-b st-o (length st) (st))
             ∷ (ref-own 𝓤 H A W (statisticsBy 𝓤 H A W .R) (named 2) ss-κ ss-q ss-γ ss-b ss-o (ss))
             ∷ (shr-own 𝓤 H A W (unsignedInt 𝓤 H A W w8 .R) (named 3) d-κ d-q d-γ d-b d-o (length d) (d))
-            ∷ ‵ (froom Y′.mir l₁₅ 0)
-            ∷ ‵ (fdies Y′.mir l₁₅)
-            ∷ ‵ (froom (tyRef erased mut (pointee (Z.the-row .written))) l₁₄ 0)
-            ∷ ‵ (fdies (tyRef erased mut (pointee (Z.the-row .written))) l₁₄)
-            ∷ ‵ (froom tyUnit l₁₃ 0)
-            ∷ ‵ (fdies tyUnit l₁₃)
+            ∷ ‵ (froom Y′.mir l₁₉ 0)
+            ∷ ‵ (fdies Y′.mir l₁₉)
+            ∷ ‵ (froom (tyRef erased mut (pointee (Z.the-row .written))) l₁₈ 0)
+            ∷ ‵ (fdies (tyRef erased mut (pointee (Z.the-row .written))) l₁₈)
+            ∷ ‵ (froom tyUnit l₁₇ 0)
+            ∷ ‵ (fdies tyUnit l₁₇)
+            ∷ ‵ (froom Y′.mir l₁₆ 0)
+            ∷ ‵ (fdies Y′.mir l₁₆)
+            ∷ ‵ (froom (tyRef erased mut (pointee (Z.the-row .written))) l₁₅ 0)
+            ∷ ‵ (fdies (tyRef erased mut (pointee (Z.the-row .written))) l₁₅)
+            ∷ ‵ (froom tyUnit l₁₄ 0)
+            ∷ ‵ (fdies tyUnit l₁₄)
+            ∷ ‵ (froom tyBool l₁₃ 0)
+            ∷ ‵ (fdies tyBool l₁₃)
             ∷ ‵ (froom tyBool l₁₂ 0)
             ∷ ‵ (fdies tyBool l₁₂)
             ∷ ‵ (froom (sliceTy (tyRef erased mut (pointee (u8 .written)))) l₁₁ 0)
@@ -202,52 +210,68 @@ module _ {M : Type 1} (𝓤 : URA M) (H : Heap 𝓤) (A : Atoms 𝓤) (W : Given
 
         begun : Sq W Begins (runs (𝓣 .C) (𝓣 .Λ) En (code.function .body) (atRet En Post))
         begun =
-            assigns ! (addr ! (from ! (fld ! refl (hop ! (look-in ! 32 (sub ! 0 refl (whole !))) (stop !))))) (from ! (stop !)) (init ! 18 refl (tt, tt)) $
-            assigns ! (agg ! (and-then ! (load ! (from ! (stop !)) (look ! 18 refl)) (and-then ! (load ! (from ! (fld ! refl (stop !))) (look-in ! 32 (sub ! 1 refl (whole !)))) (no-more !)))) (from ! (stop !)) (init ! 16 refl (tt, (tt, (record { fits = l-room .0 }, tt)))) $
-            assigns ! (addr ! (from ! (fld ! refl (hop ! (look-in ! 30 (sub ! 0 refl (whole !))) (stop !))))) (from ! (stop !)) (init ! 14 refl (tt, tt)) $
-            assigns ! (agg ! (and-then ! (load ! (from ! (stop !)) (look ! 14 refl)) (and-then ! (load ! (from ! (fld ! refl (stop !))) (look-in ! 30 (sub ! 1 refl (whole !)))) (no-more !)))) (from ! (stop !)) (init ! 12 refl (tt, (tt, (record { fits = st-room .0 }, tt)))) $
+            assigns ! (addr ! (from ! (fld ! refl (hop ! (look-in ! 40 (sub ! 0 refl (whole !))) (stop !))))) (from ! (stop !)) (init ! 26 refl (tt, tt)) $
+            assigns ! (agg ! (and-then ! (load ! (from ! (stop !)) (look ! 26 refl)) (and-then ! (load ! (from ! (fld ! refl (stop !))) (look-in ! 40 (sub ! 1 refl (whole !)))) (no-more !)))) (from ! (stop !)) (init ! 24 refl (tt, (tt, (record { fits = l-room .0 }, tt)))) $
+            assigns ! (addr ! (from ! (fld ! refl (hop ! (look-in ! 38 (sub ! 0 refl (whole !))) (stop !))))) (from ! (stop !)) (init ! 22 refl (tt, tt)) $
+            assigns ! (agg ! (and-then ! (load ! (from ! (stop !)) (look ! 22 refl)) (and-then ! (load ! (from ! (fld ! refl (stop !))) (look-in ! 38 (sub ! 1 refl (whole !)))) (no-more !)))) (from ! (stop !)) (init ! 20 refl (tt, (tt, (record { fits = st-room .0 }, tt)))) $
             move ! (0 ∷ 1 ∷ 3 ∷ []) $
             move ! (1 ∷ 2 ∷ []) $
             join ! $
             move ! (1 ∷ 0 ∷ []) $
             join ! $
-            asks ! (fmOf 𝓤 H (W .laws) 𝓣) (both-lent 𝓤 H A W (slice-lent 𝓤 H A W (subscriptionBy 𝓤 H A W .R) (named 0) l-κ l-q l-γ l-b l-o (length l)) (both-lent 𝓤 H A W (slice-lent 𝓤 H A W (unsignedInt 𝓤 H A W w8 .R) (named 1) st-κ st-q st-γ st-b st-o (length st)) (shr-lent 𝓤 H A W (unsignedInt 𝓤 H A W w8 .R) (named 2) d-κ d-q d-γ d-b d-o (length d)))) (answerBy 𝓤 H A W) (AsDeliver.called 𝓤 H A W mem run (𝓣 .C) k-deliver l-κ l-q l-γ l-b l-o (length l) (l) st-κ st-q st-γ st-b st-o (length st) (st) (ar) (ar-is) d-κ d-q d-γ d-b d-o (length d) (d)) (λ _ _. (and-then ! (load ! (from ! (stop !)) (look ! 15 refl)) (and-then ! (load ! (from ! (stop !)) (look ! 11 refl)) (and-then ! (load ! (from ! (stop !)) (look ! 25 refl)) (and-then ! (load ! (from ! (stop !)) (look ! 23 refl)) (no-more !)))))) (λ is₁ fit₂.
-            land ! (from ! (stop !)) (init ! 20 refl (answerBy 𝓤 H A W .typed (deliveredAnswer (ar) (d) (l) (st)) _ (is₁))) $
+            asks ! (fmOf 𝓤 H (W .laws) 𝓣) (both-lent 𝓤 H A W (slice-lent 𝓤 H A W (subscriptionBy 𝓤 H A W .R) (named 0) l-κ l-q l-γ l-b l-o (length l)) (both-lent 𝓤 H A W (slice-lent 𝓤 H A W (unsignedInt 𝓤 H A W w8 .R) (named 1) st-κ st-q st-γ st-b st-o (length st)) (shr-lent 𝓤 H A W (unsignedInt 𝓤 H A W w8 .R) (named 2) d-κ d-q d-γ d-b d-o (length d)))) (answerBy 𝓤 H A W) (AsDeliver.called 𝓤 H A W mem run (𝓣 .C) k-deliver l-κ l-q l-γ l-b l-o (length l) (l) st-κ st-q st-γ st-b st-o (length st) (st) (ar) (ar-is) d-κ d-q d-γ d-b d-o (length d) (d)) (λ _ _. (and-then ! (load ! (from ! (stop !)) (look ! 23 refl)) (and-then ! (load ! (from ! (stop !)) (look ! 19 refl)) (and-then ! (load ! (from ! (stop !)) (look ! 33 refl)) (and-then ! (load ! (from ! (stop !)) (look ! 31 refl)) (no-more !)))))) (λ is₁ fit₂.
+            land ! (from ! (stop !)) (init ! 28 refl (answerBy 𝓤 H A W .typed (deliveredAnswer (ar) (d) (l) (st)) _ (is₁))) $
             move ! (0 ∷ []) $
             split ! $
             move ! (1 ∷ []) $
             split ! $
-            asks-plain ! (fmOf 𝓤 H (W .laws) 𝓣) (boolean 𝓤 H A W) (AsIsUncounted.called 𝓤 H A W mem run (𝓣 .C) k-is-uncounted (deliveredAnswer (ar) (d) (l) (st)) (is₁)) (λ _ _. (and-then ! (load ! (from ! (stop !)) (look ! 24 refl)) (no-more !))) (λ is₃.
-            land ! (from ! (stop !)) (init ! 10 refl (boolean 𝓤 H A W .typed (uncounted (meaning (deliveredAnswer (ar) (d) (l) (st)))) _ (is₃))) $
-            guards ! (load ! (from ! (stop !)) (look ! 10 refl))
+            asks-plain ! (fmOf 𝓤 H (W .laws) 𝓣) (boolean 𝓤 H A W) (AsIsUncounted.called 𝓤 H A W mem run (𝓣 .C) k-is-uncounted (deliveredAnswer (ar) (d) (l) (st)) (is₁)) (λ _ _. (and-then ! (load ! (from ! (stop !)) (look ! 32 refl)) (no-more !))) (λ is₃.
+            land ! (from ! (stop !)) (init ! 18 refl (boolean 𝓤 H A W .typed (uncounted (meaning (deliveredAnswer (ar) (d) (l) (st)))) _ (is₃))) $
+            guards ! (load ! (from ! (stop !)) (look ! 18 refl))
             (λ yes₁.
-            assigns ! (of-opd ! (load ! (from ! (stop !)) (look ! 22 refl))) (from ! (stop !)) (init ! 34 refl (answerBy 𝓤 H A W .typed (deliveredAnswer (ar) (d) (l) (st)) _ (is₁))) $
-            returns-within ! Post refl (look ! 34 refl) $
-            move ! (34 ∷ 35 ∷ 32 ∷ 33 ∷ 30 ∷ 31 ∷ 28 ∷ 29 ∷ 26 ∷ 27 ∷ 24 ∷ 25 ∷ 22 ∷ 23 ∷ 20 ∷ 21 ∷ 18 ∷ 19 ∷ 16 ∷ 17 ∷ 14 ∷ 15 ∷ 12 ∷ 13 ∷ 10 ∷ 11 ∷ 8 ∷ 9 ∷ 6 ∷ 7 ∷ 4 ∷ 5 ∷ []) $
-            frees-all En (someᴼ _ ∷ someᴼ _ ∷ someᴼ _ ∷ someᴼ _ ∷ someᴼ _ ∷ someᴼ _ ∷ someᴼ _ ∷ noneᴼ ∷ someᴼ _ ∷ someᴼ _ ∷ someᴼ _ ∷ someᴼ _ ∷ someᴼ _ ∷ noneᴼ ∷ noneᴼ ∷ noneᴼ ∷ []) ! $
+            assigns ! (of-opd ! (load ! (from ! (stop !)) (look ! 30 refl))) (from ! (stop !)) (init ! 42 refl (answerBy 𝓤 H A W .typed (deliveredAnswer (ar) (d) (l) (st)) _ (is₁))) $
+            returns-within ! Post refl (look ! 42 refl) $
+            move ! (42 ∷ 43 ∷ 40 ∷ 41 ∷ 38 ∷ 39 ∷ 36 ∷ 37 ∷ 34 ∷ 35 ∷ 32 ∷ 33 ∷ 30 ∷ 31 ∷ 28 ∷ 29 ∷ 26 ∷ 27 ∷ 24 ∷ 25 ∷ 22 ∷ 23 ∷ 20 ∷ 21 ∷ 18 ∷ 19 ∷ 16 ∷ 17 ∷ 14 ∷ 15 ∷ 12 ∷ 13 ∷ 10 ∷ 11 ∷ 8 ∷ 9 ∷ 6 ∷ 7 ∷ 4 ∷ 5 ∷ []) $
+            frees-all En (someᴼ _ ∷ someᴼ _ ∷ someᴼ _ ∷ someᴼ _ ∷ someᴼ _ ∷ someᴼ _ ∷ someᴼ _ ∷ noneᴼ ∷ someᴼ _ ∷ someᴼ _ ∷ someᴼ _ ∷ someᴼ _ ∷ someᴼ _ ∷ noneᴼ ∷ noneᴼ ∷ noneᴼ ∷ noneᴼ ∷ noneᴼ ∷ noneᴼ ∷ noneᴼ ∷ []) ! $
             keep ! (2 ∷ 0 ∷ 3 ∷ 1 ∷ []) $
             by ! (exits (deliveredAnswer (ar) (d) (l) (st)) (deliveredRecords (ar) (d) (l) (st)) (deliveredStore (ar) (d) (l) (st)) (ss) (uncounted-receives ar d l st ss yes₁) ((fit₂ .0)) ((fit₂ .1 .0)) (is₁))
             )
             (λ no₁.
-            asks-plain ! (fmOf 𝓤 H (W .laws) 𝓣) (unsignedInt 𝓤 H A W w8) (AsOutcomeOf.called 𝓤 H A W mem run (𝓣 .C) k-outcome-of (deliveredAnswer (ar) (d) (l) (st)) (is₁)) (λ _ _. (and-then ! (load ! (from ! (stop !)) (look ! 24 refl)) (no-more !))) (λ is₅.
-            land ! (from ! (stop !)) (init ! 20 refl (unsignedInt 𝓤 H A W w8 .typed (outcomeOf (meaning (deliveredAnswer (ar) (d) (l) (st)))) _ (is₅))) $
-            assigns ! (addr ! (from ! (hop ! (look ! 28 refl) (stop !)))) (from ! (stop !)) (init ! 6 refl (tt, tt)) $
+            asks-plain ! (fmOf 𝓤 H (W .laws) 𝓣) (unsignedInt 𝓤 H A W w8) (AsOutcomeOf.called 𝓤 H A W mem run (𝓣 .C) k-outcome-of (deliveredAnswer (ar) (d) (l) (st)) (is₁)) (λ _ _. (and-then ! (load ! (from ! (stop !)) (look ! 32 refl)) (no-more !))) (λ is₅.
+            land ! (from ! (stop !)) (init ! 28 refl (unsignedInt 𝓤 H A W w8 .typed (outcomeOf (meaning (deliveredAnswer (ar) (d) (l) (st)))) _ (is₅))) $
+            assigns ! (bin ! (load ! (from ! (stop !)) (look ! 28 refl)) (lit ! tt) tt) (from ! (stop !)) (init ! 16 refl (tt, tt)) $
+            guards ! (load ! (from ! (stop !)) (look ! 16 refl))
+            (λ yes₂.
+            assigns ! (addr ! (from ! (hop ! (look ! 36 refl) (stop !)))) (from ! (stop !)) (init ! 12 refl (tt, tt)) $
+            assigns ! (agg ! (and-then ! (lit ! tt) (no-more !))) (from ! (stop !)) (init ! 10 refl (familyBy 𝓤 H A W .typed (Pd) _ (EL.owes Y.the-type Y′.the-laws Pd tt))) $
+            move ! (3 ∷ []) $
+            asks ! (fmOf 𝓤 H (W .laws) 𝓣) (ref-lent 𝓤 H A W (statisticsBy 𝓤 H A W .R) (named 0) ss-κ ss-q ss-γ ss-b ss-o) (unitBy 𝓤 H A W) (AsRecord.called 𝓤 H A W mem run (𝓣 .C) k-record ss-κ ss-q ss-γ ss-b ss-o (ss) (Pd) (EL.owes Y.the-type Y′.the-laws Pd tt) (0) ((refl, lit< tt))) (λ _ _. (and-then ! (load ! (from ! (stop !)) (look ! 13 refl)) (and-then ! (load ! (from ! (stop !)) (look ! 11 refl)) (and-then ! (lit ! tt) (no-more !))))) (λ is₇ fit₈.
+            land ! (from ! (stop !)) (init ! 14 refl (unitBy 𝓤 H A W .typed (tt) _ (is₇))) $
+            assigns ! (of-opd ! (load ! (from ! (stop !)) (look ! 30 refl))) (from ! (stop !)) (init ! 42 refl (answerBy 𝓤 H A W .typed (deliveredAnswer (ar) (d) (l) (st)) _ (is₁))) $
+            returns-within ! Post refl (look ! 42 refl) $
+            move ! (42 ∷ 43 ∷ 40 ∷ 41 ∷ 38 ∷ 39 ∷ 36 ∷ 37 ∷ 34 ∷ 35 ∷ 32 ∷ 33 ∷ 30 ∷ 31 ∷ 28 ∷ 29 ∷ 26 ∷ 27 ∷ 24 ∷ 25 ∷ 22 ∷ 23 ∷ 20 ∷ 21 ∷ 18 ∷ 19 ∷ 16 ∷ 17 ∷ 14 ∷ 15 ∷ 12 ∷ 13 ∷ 10 ∷ 11 ∷ 8 ∷ 9 ∷ 6 ∷ 7 ∷ 4 ∷ 5 ∷ []) $
+            frees-all En (someᴼ _ ∷ someᴼ _ ∷ someᴼ _ ∷ someᴼ _ ∷ someᴼ _ ∷ someᴼ _ ∷ someᴼ _ ∷ someᴼ _ ∷ someᴼ _ ∷ someᴼ _ ∷ someᴼ _ ∷ someᴼ _ ∷ someᴼ _ ∷ someᴼ _ ∷ someᴼ _ ∷ someᴼ _ ∷ someᴼ _ ∷ noneᴼ ∷ noneᴼ ∷ noneᴼ ∷ []) ! $
+            keep ! (3 ∷ 1 ∷ 0 ∷ 2 ∷ []) $
+            by ! (exits (deliveredAnswer (ar) (d) (l) (st)) (deliveredRecords (ar) (d) (l) (st)) (deliveredStore (ar) (d) (l) (st)) (added (Pd) (0) (ss)) (delivered-receives ar d l st ss no₁ yes₂) ((fit₂ .0)) ((fit₂ .1 .0)) (is₁))
+            ))
+            (λ no₂.
+            assigns ! (addr ! (from ! (hop ! (look ! 36 refl) (stop !)))) (from ! (stop !)) (init ! 6 refl (tt, tt)) $
             assigns ! (agg ! (and-then ! (lit ! tt) (no-more !))) (from ! (stop !)) (init ! 4 refl (familyBy 𝓤 H A W .typed (Pd) _ (EL.owes Y.the-type Y′.the-laws Pd tt))) $
             move ! (3 ∷ []) $
-            asks ! (fmOf 𝓤 H (W .laws) 𝓣) (ref-lent 𝓤 H A W (statisticsBy 𝓤 H A W .R) (named 0) ss-κ ss-q ss-γ ss-b ss-o) (unitBy 𝓤 H A W) (AsRecord.called 𝓤 H A W mem run (𝓣 .C) k-record ss-κ ss-q ss-γ ss-b ss-o (ss) (Pd) (EL.owes Y.the-type Y′.the-laws Pd tt) (outcomeOf (meaning (deliveredAnswer (ar) (d) (l) (st)))) (is₅)) (λ _ _. (and-then ! (load ! (from ! (stop !)) (look ! 7 refl)) (and-then ! (load ! (from ! (stop !)) (look ! 5 refl)) (and-then ! (load ! (from ! (stop !)) (look ! 21 refl)) (no-more !))))) (λ is₇ fit₈.
-            land ! (from ! (stop !)) (init ! 8 refl (unitBy 𝓤 H A W .typed (tt) _ (is₇))) $
-            assigns ! (of-opd ! (load ! (from ! (stop !)) (look ! 22 refl))) (from ! (stop !)) (init ! 34 refl (answerBy 𝓤 H A W .typed (deliveredAnswer (ar) (d) (l) (st)) _ (is₁))) $
-            returns ! (look ! 34 refl) $
-            move ! (34 ∷ 35 ∷ 32 ∷ 33 ∷ 30 ∷ 31 ∷ 28 ∷ 29 ∷ 26 ∷ 27 ∷ 24 ∷ 25 ∷ 22 ∷ 23 ∷ 20 ∷ 21 ∷ 18 ∷ 19 ∷ 16 ∷ 17 ∷ 14 ∷ 15 ∷ 12 ∷ 13 ∷ 10 ∷ 11 ∷ 8 ∷ 9 ∷ 6 ∷ 7 ∷ 4 ∷ 5 ∷ []) $
-            frees-all En (someᴼ _ ∷ someᴼ _ ∷ someᴼ _ ∷ someᴼ _ ∷ someᴼ _ ∷ someᴼ _ ∷ someᴼ _ ∷ someᴼ _ ∷ someᴼ _ ∷ someᴼ _ ∷ someᴼ _ ∷ someᴼ _ ∷ someᴼ _ ∷ someᴼ _ ∷ someᴼ _ ∷ someᴼ _ ∷ []) ! $
+            asks ! (fmOf 𝓤 H (W .laws) 𝓣) (ref-lent 𝓤 H A W (statisticsBy 𝓤 H A W .R) (named 0) ss-κ ss-q ss-γ ss-b ss-o) (unitBy 𝓤 H A W) (AsRecord.called 𝓤 H A W mem run (𝓣 .C) k-record ss-κ ss-q ss-γ ss-b ss-o (ss) (Pd) (EL.owes Y.the-type Y′.the-laws Pd tt) (outcomeOf (meaning (deliveredAnswer (ar) (d) (l) (st)))) (is₅)) (λ _ _. (and-then ! (load ! (from ! (stop !)) (look ! 7 refl)) (and-then ! (load ! (from ! (stop !)) (look ! 5 refl)) (and-then ! (load ! (from ! (stop !)) (look ! 29 refl)) (no-more !))))) (λ is₉ fit₁₀.
+            land ! (from ! (stop !)) (init ! 8 refl (unitBy 𝓤 H A W .typed (tt) _ (is₉))) $
+            assigns ! (of-opd ! (load ! (from ! (stop !)) (look ! 30 refl))) (from ! (stop !)) (init ! 42 refl (answerBy 𝓤 H A W .typed (deliveredAnswer (ar) (d) (l) (st)) _ (is₁))) $
+            returns ! (look ! 42 refl) $
+            move ! (42 ∷ 43 ∷ 40 ∷ 41 ∷ 38 ∷ 39 ∷ 36 ∷ 37 ∷ 34 ∷ 35 ∷ 32 ∷ 33 ∷ 30 ∷ 31 ∷ 28 ∷ 29 ∷ 26 ∷ 27 ∷ 24 ∷ 25 ∷ 22 ∷ 23 ∷ 20 ∷ 21 ∷ 18 ∷ 19 ∷ 16 ∷ 17 ∷ 14 ∷ 15 ∷ 12 ∷ 13 ∷ 10 ∷ 11 ∷ 8 ∷ 9 ∷ 6 ∷ 7 ∷ 4 ∷ 5 ∷ []) $
+            frees-all En (someᴼ _ ∷ someᴼ _ ∷ someᴼ _ ∷ someᴼ _ ∷ someᴼ _ ∷ someᴼ _ ∷ someᴼ _ ∷ someᴼ _ ∷ someᴼ _ ∷ someᴼ _ ∷ someᴼ _ ∷ someᴼ _ ∷ someᴼ _ ∷ someᴼ _ ∷ noneᴼ ∷ noneᴼ ∷ noneᴼ ∷ someᴼ _ ∷ someᴼ _ ∷ someᴼ _ ∷ []) ! $
             keep ! (3 ∷ 1 ∷ 0 ∷ 2 ∷ []) $
-            by ! (exits (deliveredAnswer (ar) (d) (l) (st)) (deliveredRecords (ar) (d) (l) (st)) (deliveredStore (ar) (d) (l) (st)) (added (Pd) (outcomeOf (meaning (deliveredAnswer (ar) (d) (l) (st)))) (ss)) (counted-receives ar d l st ss no₁) ((fit₂ .0)) ((fit₂ .1 .0)) (is₁)))))))
+            by ! (exits (deliveredAnswer (ar) (d) (l) (st)) (deliveredRecords (ar) (d) (l) (st)) (deliveredStore (ar) (d) (l) (st)) (added (Pd) (outcomeOf (meaning (deliveredAnswer (ar) (d) (l) (st)))) (ss)) (counted-receives ar d l st ss no₁) ((fit₂ .0)) ((fit₂ .1 .0)) (is₁))))))))
 
       walk : ent 𝓤 (onEntry 𝓤 H A f.signature ((l-κ, (st-κ, (ss-κ, (d-κ, tt))))) ((l-q, (st-q, (ss-q, (d-q, tt))))) args ((sliceVal (l-b, l-o) (length l) ∷ [], (sliceVal (st-b, st-o) (length st) ∷ [], (vptr ss-b ss-o ∷ [], (arrivalBy 𝓤 H A W .val ar ∷ [], (sliceVal (d-b, d-o) (length d) ∷ [], tt))))))) (WpFn 𝓤 H (𝓣 .C) (𝓣 .Λ) code.function (sliceVal (l-b, l-o) (length l) ∷ sliceVal (st-b, st-o) (length st) ∷ vptr ss-b ss-o ∷ arrivalBy 𝓤 H A W .val ar ∷ sliceVal (d-b, d-o) (length d) ∷ []) Post)
       walk =
           qed W ((‵ (flft l-κ l-q) ⊛ (‵ (flft st-κ st-q) ⊛ (‵ (flft ss-κ ss-q) ⊛ (‵ (flft d-κ d-q) ⊛ ‵ ftrue)))) ∷ ‵ (owns (MutSlice (named 0) l-κ (subscriptionBy 𝓤 H A W .R) ∷ MutSlice (named 1) st-κ (unsignedInt 𝓤 H A W w8 .R) ∷ MutRef (named 2) ss-κ (statisticsBy 𝓤 H A W .R) ∷ arrivalBy 𝓤 H A W .R ∷ ShrSlice (named 3) d-κ (unsignedInt 𝓤 H A W w8 .R) ∷ []) args ((sliceVal (l-b, l-o) (length l) ∷ [], (sliceVal (st-b, st-o) (length st) ∷ [], (vptr ss-b ss-o ∷ [], (arrivalBy 𝓤 H A W .val ar ∷ [], (sliceVal (d-b, d-o) (length d) ∷ [], tt))))))) ∷ []) ∵ enter ! (𝓣 .C) (𝓣 .Λ) code.function (sliceVal (l-b, l-o) (length l) ∷ sliceVal (st-b, st-o) (length st) ∷ vptr ss-b ss-o ∷ arrivalBy 𝓤 H A W .val ar ∷ sliceVal (d-b, d-o) (length d) ∷ []) _ $
-          alloc1 ! (λ l₀. alloc1 ! (λ l₁. alloc1 ! (λ l₂. alloc1 ! (λ l₃. alloc1 ! (λ l₄. alloc1 ! (λ l₅. alloc1 ! (λ l₆. alloc1 ! (λ l₇. alloc1 ! (λ l₈. alloc1 ! (λ l₉. alloc1 ! (λ l₁₀. alloc1 ! (λ l₁₁. alloc1 ! (λ l₁₂. alloc1 ! (λ l₁₃. alloc1 ! (λ l₁₄. alloc1 ! (λ l₁₅.
-          alloc0 ! $ params1 ! $ pass1 ! (init ! 28 refl (tt, (tt, (record { fits = l-room .0 }, tt)))) $ pass1 ! (init ! 26 refl (tt, (tt, (record { fits = st-room .0 }, tt)))) $ pass1 ! (init ! 24 refl (tt, tt)) $ pass1 ! (init ! 22 refl (arrivalBy 𝓤 H A W .typed ar _ ar-is)) $ pass1 ! (init ! 20 refl (tt, (tt, (record { fits = d-room .0 }, tt)))) $ pass0 ! $ move ! (33 ∷ []) $ fsplit ! $ move ! (1 ∷ []) $ fsplit ! $ move ! (1 ∷ []) $ fsplit ! $ move ! (1 ∷ []) $ fsplit ! $ move ! (1 ∷ []) $ fsplit ! $ move ! (38 ∷ []) $ split ! $ move ! (1 ∷ []) $ split ! $ move ! (1 ∷ []) $ split ! $ move ! (1 ∷ []) $ split ! $ move ! (5 ∷ 0 ∷ []) $ join ! $ move ! (7 ∷ 2 ∷ []) $ join ! $ move ! (7 ∷ 3 ∷ []) $ join ! $ move ! (7 ∷ 4 ∷ []) $ join ! $ keep ! (0 ∷ 1 ∷ 2 ∷ 3 ∷ 7 ∷ 8 ∷ 9 ∷ 10 ∷ 11 ∷ 12 ∷ 13 ∷ 14 ∷ 15 ∷ 16 ∷ 17 ∷ 18 ∷ 19 ∷ 20 ∷ 21 ∷ 22 ∷ 23 ∷ 24 ∷ 25 ∷ 26 ∷ 27 ∷ 28 ∷ 29 ∷ 30 ∷ 31 ∷ 32 ∷ 33 ∷ 34 ∷ 35 ∷ 36 ∷ 37 ∷ 38 ∷ []) $ begun l₀ l₁ l₂ l₃ l₄ l₅ l₆ l₇ l₈ l₉ l₁₀ l₁₁ l₁₂ l₁₃ l₁₄ l₁₅))))))))))))))))
+          alloc1 ! (λ l₀. alloc1 ! (λ l₁. alloc1 ! (λ l₂. alloc1 ! (λ l₃. alloc1 ! (λ l₄. alloc1 ! (λ l₅. alloc1 ! (λ l₆. alloc1 ! (λ l₇. alloc1 ! (λ l₈. alloc1 ! (λ l₉. alloc1 ! (λ l₁₀. alloc1 ! (λ l₁₁. alloc1 ! (λ l₁₂. alloc1 ! (λ l₁₃. alloc1 ! (λ l₁₄. alloc1 ! (λ l₁₅. alloc1 ! (λ l₁₆. alloc1 ! (λ l₁₇. alloc1 ! (λ l₁₈. alloc1 ! (λ l₁₉.
+          alloc0 ! $ params1 ! $ pass1 ! (init ! 36 refl (tt, (tt, (record { fits = l-room .0 }, tt)))) $ pass1 ! (init ! 34 refl (tt, (tt, (record { fits = st-room .0 }, tt)))) $ pass1 ! (init ! 32 refl (tt, tt)) $ pass1 ! (init ! 30 refl (arrivalBy 𝓤 H A W .typed ar _ ar-is)) $ pass1 ! (init ! 28 refl (tt, (tt, (record { fits = d-room .0 }, tt)))) $ pass0 ! $ move ! (41 ∷ []) $ fsplit ! $ move ! (1 ∷ []) $ fsplit ! $ move ! (1 ∷ []) $ fsplit ! $ move ! (1 ∷ []) $ fsplit ! $ move ! (1 ∷ []) $ fsplit ! $ move ! (46 ∷ []) $ split ! $ move ! (1 ∷ []) $ split ! $ move ! (1 ∷ []) $ split ! $ move ! (1 ∷ []) $ split ! $ move ! (5 ∷ 0 ∷ []) $ join ! $ move ! (7 ∷ 2 ∷ []) $ join ! $ move ! (7 ∷ 3 ∷ []) $ join ! $ move ! (7 ∷ 4 ∷ []) $ join ! $ keep ! (0 ∷ 1 ∷ 2 ∷ 3 ∷ 7 ∷ 8 ∷ 9 ∷ 10 ∷ 11 ∷ 12 ∷ 13 ∷ 14 ∷ 15 ∷ 16 ∷ 17 ∷ 18 ∷ 19 ∷ 20 ∷ 21 ∷ 22 ∷ 23 ∷ 24 ∷ 25 ∷ 26 ∷ 27 ∷ 28 ∷ 29 ∷ 30 ∷ 31 ∷ 32 ∷ 33 ∷ 34 ∷ 35 ∷ 36 ∷ 37 ∷ 38 ∷ 39 ∷ 40 ∷ 41 ∷ 42 ∷ 43 ∷ 44 ∷ 45 ∷ 46 ∷ []) $ begun l₀ l₁ l₂ l₃ l₄ l₅ l₆ l₇ l₈ l₉ l₁₀ l₁₁ l₁₂ l₁₃ l₁₄ l₁₅ l₁₆ l₁₇ l₁₈ l₁₉))))))))))))))))))))
 
   module _ (𝓣 : Tables 𝓤 H) (k-deliver : Triple 𝓤 (𝓣 .C #deliver) (AsDeliver.G 𝓤 H A W mem run)) (k-is-uncounted : Triple 𝓤 (𝓣 .C #is-uncounted) (AsIsUncounted.G 𝓤 H A W mem run)) (k-outcome-of : Triple 𝓤 (𝓣 .C #outcome-of) (AsOutcomeOf.G 𝓤 H A W mem run)) (k-record : Triple 𝓤 (𝓣 .C #record) (AsRecord.G 𝓤 H A W mem run)) where
     walks : Walks 𝓤 H A f.ended stayed (WpFn 𝓤 H (𝓣 .C) (𝓣 .Λ) code.function) (f.clauses 𝓤 H A mem run)

@@ -1,0 +1,86 @@
+-- A datagram that was not taken apart, is not local or not sound is refused; any other follows the rule of its type.
+use mathlib.Core.Path.{refl, sym, ap, _∙_}
+use mir.Facts.{toZ-ofZ}
+use mir.Val.{ofZ, toZ}
+use mir.Syntax.{w32}
+use Rattle.refusal.specs.Refusal.{topography, uri}
+use Rattle.md.specs.Md.{refusalOf}
+use Rattle.sessions.proofs.Arrived.{not-taken, not-local, not-sound, refused-follows, passed-follows}
+use Rattle.sessions.specs.Table as table
+use Rattle.packed.specs.Packed.{tablesOf}
+use Rattle.packed_calls.proofs.Left.{refused, gave}
+use borrow.Author.Needs.{needs}
+use Rattle.packed_calls.proofs.arrive.Statement.{statement}
+use Rattle.packed_calls.proofs.arrive.Tie as tie
+
+take-md-requires : tie.Need-take-md-requires
+take-md-requires c κs = search needs
+
+enum-known-taken : tie.Need-enum-known-taken
+enum-known-taken c = search needs
+
+enum-told : tie.Need-enum-told
+enum-told c = search needs
+
+refusal-requires : tie.Need-refusal-requires
+refusal-requires c κs = search needs
+
+returns : tie.Need-returns
+returns c =
+    let a = c .before .before .before .before .before .before .args in
+    let e = c .before .enum-told .given .1 in
+    let n = c .refusal .result in
+    refused (table.telegram (a .a) (a .datagram .now)) (a .octets .now) n (refused-follows (a .a) (a .datagram .now) (tablesOf (a .octets .now)) n _ (not-taken (a .a) (a .datagram .now) _ (sym (c .before .before .before .take-md .ensures) ∙ e) ∙ ap table.refusal (sym (c .refusal .ensures ∙ ap refusalOf e))) refl)
+
+is-local-requires : tie.Need-is-local-requires
+is-local-requires c κs = search needs
+
+has-sound-uris-requires : tie.Need-has-sound-uris-requires
+has-sound-uris-requires c κs = search needs
+
+session-id-requires : tie.Need-session-id-requires
+session-id-requires c κs = search needs
+
+destination-uri-requires : tie.Need-destination-uri-requires
+destination-uri-requires c κs = search needs
+
+follow-requires : tie.Need-follow-requires
+follow-requires c κs = search needs
+
+same-length : tie.Need-same-length
+same-length c = search needs
+
+returns-2 : tie.Need-returns-2
+returns-2 c =
+    let a = c .before .before .before .before .before .before .before .before .before .before .before .before .before .before .before .before .before .before .args in
+    let g = c .before .before .follow .ensures in
+    gave (table.telegram (a .a) (a .datagram .now)) (a .octets .now) _ (c .before .before .follow .result) _ g (passed-follows (a .a) (a .datagram .now) _ (sym (c .before .before .before .before .before .before .before .before .before .before .before .before .before .before .before .take-md .ensures) ∙ c .before .before .before .before .before .before .before .before .before .before .before .before .before .taken .given .1) (c .before .before .before .before .before .before .session-id .result) (c .before .before .before .destination-uri .result .now) (toZ w32 (ofZ w32 (c .before .before .before .before .before .before .before .before .before .before .before .before .before .taken .given .0 .0 .«reply_status»))) (sym (c .before .before .before .before .before .before .before .before .before .before .is-local .ensures) ∙ c .before .before .before .before .before .before .before .before .before .if1 .taken) (sym (c .before .before .before .before .before .before .before .before .has-sound-uris .ensures) ∙ c .before .before .before .before .before .before .before .if2 .taken) (c .before .before .before .before .before .before .session-id .ensures) (c .before .before .before .destination-uri .ensures) (toZ-ofZ (search needs)) (tablesOf (a .octets .now)) _ (g .does))
+
+returns-3 : tie.Need-returns-3
+returns-3 c =
+    let a = c .before .before .before .before .before .before .before .before .before .before .before .args in
+    refused (table.telegram (a .a) (a .datagram .now)) (a .octets .now) uri (refused-follows (a .a) (a .datagram .now) (tablesOf (a .octets .now)) uri _ (not-sound (a .a) (a .datagram .now) _ (sym (c .before .before .before .before .before .before .before .before .take-md .ensures) ∙ c .before .before .before .before .before .before .taken .given .1) (sym (c .before .before .before .is-local .ensures) ∙ c .before .before .if1 .taken) (sym (c .before .has-sound-uris .ensures) ∙ c .if2 .left)) refl)
+
+returns-4 : tie.Need-returns-4
+returns-4 c =
+    let a = c .before .before .before .before .before .before .before .before .before .args in
+    refused (table.telegram (a .a) (a .datagram .now)) (a .octets .now) topography (refused-follows (a .a) (a .datagram .now) (tablesOf (a .octets .now)) topography _ (not-local (a .a) (a .datagram .now) _ (sym (c .before .before .before .before .before .before .take-md .ensures) ∙ c .before .before .before .before .taken .given .1) (sym (c .before .is-local .ensures) ∙ c .if1 .left)) refl)
+
+pub arrive-spec : {M : Type 1} → statement M
+arrive-spec =
+    tie.close
+    (tie.spec
+    take-md-requires
+    enum-known-taken
+    enum-told
+    refusal-requires
+    returns
+    is-local-requires
+    has-sound-uris-requires
+    session-id-requires
+    destination-uri-requires
+    follow-requires
+    same-length
+    returns-2
+    returns-3
+    returns-4)

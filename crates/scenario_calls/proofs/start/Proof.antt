@@ -1,0 +1,21 @@
+-- Slots, tables and statistics are those of their crates.
+use Rattle.scenario_calls.specs.Calls.{atStart}
+use Rattle.scenario_calls.proofs.Calls.{started}
+use borrow.Author.Needs.{needs}
+use Rattle.scenario_calls.proofs.start.Statement.{statement}
+use Rattle.scenario_calls.proofs.start.Tie as tie
+
+start-requires : tie.Need-start-requires
+start-requires c κs = search needs
+
+start-requires-2 : tie.Need-start-requires-2
+start-requires-2 c κs = search needs
+
+none-requires : tie.Need-none-requires
+none-requires c κs = search needs
+
+returns : tie.Need-returns
+returns c = started (c .before .before .start .ensures) (c .before .start2 .ensures) (c .none .ensures)
+
+pub start-spec : {M : Type 1} → statement M
+start-spec = tie.close (tie.spec start-requires start-requires-2 none-requires returns)

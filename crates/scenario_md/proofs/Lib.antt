@@ -1,0 +1,5 @@
+mod Codes
+mod Shown
+mod Lines
+pub mod Served
+pub mod Begun

@@ -1,0 +1,91 @@
+-- The fields are read one after the other; the line ends behind the last, or it asks nothing.
+use borrow.Author.Needs.{needs}
+use mathlib.Core.Path.{_≡_, refl, sym, _∙_}
+use mathlib.Core.Bool.{true, false}
+use Rattle.line.specs.Line.{readTo, ends}
+use Rattle.scenario_md.specs.Lines.{callAsked}
+use Rattle.scenario_md.proofs.Lines.{ended, number-read, octets-left, octets-read, read-before, read-last, unended}
+use Rattle.scenario_md.proofs.Served.{asks, told, unserved}
+use Rattle.scenario_md.proofs.call.Statement.{statement}
+use Rattle.scenario_md.proofs.call.Tie as tie
+
+behind-requires : tie.Need-behind-requires
+behind-requires c κs = search needs
+
+slice-aggregate-octets-field : tie.Need-slice-aggregate-octets-field
+slice-aggregate-octets-field c = search needs
+
+octets-field-requires : tie.Need-octets-field-requires
+octets-field-requires c κs = search needs
+
+number-requires : tie.Need-number-requires
+number-requires c κs = search needs
+
+number-requires-2 : tie.Need-number-requires-2
+number-requires-2 c κs = search needs
+
+is-end-requires : tie.Need-is-end-requires
+is-end-requires c κs = search needs
+
+word-requires : tie.Need-word-requires
+word-requires c κs = search needs
+
+call-requires : tie.Need-call-requires
+call-requires c κs = search needs
+
+tell-requires : tie.Need-tell-requires
+tell-requires c κs = search needs
+
+same-length : tie.Need-same-length
+same-length c = search needs
+
+returns : tie.Need-returns
+unfolding callAsked
+returns c =
+    let s = c .before .before .before .before .before .before .before .before .before .before .before .before .before .before .before .before .args .s .now in
+    let b = c .before .before .before .before .before .before .before .before .before .before .before .before .before .behind in
+    let f1 = c .before .before .before .before .before .before .before .before .before .before .before .octets-field in
+    let f2 = c .before .before .before .before .before .before .before .before .before .number in
+    let f3 = c .before .before .before .before .before .before .before .before .number2 in
+    let e : ends s (f3 .result) ≡ true = sym (c .before .before .before .before .before .before .before .is-end .ensures) ∙ c .before .before .before .before .before .before .if1 .taken in
+    asks (told (c .before .before .before .before .call .ensures) (c .before .before .tell .ensures) (λ x. refl) (λ x n. refl))
+    (octets-read s (b .result) (readTo 0 4) (f1 .result) 16 (b .ensures) _ _ _ (f1 .ensures .0) (read-before s (f1 .result) (f2 .result) 8 (f2 .ensures) (read-before s (f2 .result) (f3 .result) 16 (f3 .ensures) (read-last s (f3 .result) e))) (f1 .ensures .1)
+    (number-read s (f1 .result) (f1 .result) (f2 .result) 8 refl _ (f2 .ensures)
+    (number-read s (f2 .result) (f2 .result) (f3 .result) 16 refl _ (f3 .ensures)
+    (ended s (f3 .result) _ e (cc (c .before .before .before .before .before .word .ensures))))))
+
+bad-requires : tie.Need-bad-requires
+bad-requires c κs = search needs
+
+returns-2 : tie.Need-returns-2
+unfolding callAsked
+returns-2 c =
+    let s = c .before .before .before .before .before .before .before .before .before .before .before .args .s .now in
+    let b = c .before .before .before .before .before .before .before .before .behind in
+    let f1 = c .before .before .before .before .before .before .octets-field in
+    let f2 = c .before .before .before .before .number in
+    let f3 = c .before .before .before .number2 in
+    let e : ends s (f3 .result) ≡ false = sym (c .before .before .is-end .ensures) ∙ c .before .if1 .left in
+    asks (unserved (c .before .before .before .before .before .before .before .before .before .before .before .args .t) (c .before .before .before .before .before .before .before .before .before .before .before .args .at) (c .before .before .before .before .before .before .before .before .before .before .before .args .out .now) (c .bad .ensures))
+    (octets-left s (b .result) (readTo 0 4) (f1 .result) 16 (b .ensures) _ (f1 .ensures .0)
+    (number-read s (f1 .result) (f1 .result) (f2 .result) 8 refl _ (f2 .ensures)
+    (number-read s (f2 .result) (f2 .result) (f3 .result) 16 refl _ (f3 .ensures)
+    (unended s (f3 .result) _ e))))
+
+pub call-spec : {M : Type 1} → statement M
+call-spec =
+    tie.close
+    (tie.spec
+    behind-requires
+    slice-aggregate-octets-field
+    octets-field-requires
+    number-requires
+    number-requires-2
+    is-end-requires
+    word-requires
+    call-requires
+    tell-requires
+    same-length
+    returns
+    bad-requires
+    returns-2)

@@ -1,0 +1,62 @@
+-- What a line over subscriptions answers, and what it leaves.
+use mathlib.Core.Path.{_≡_}
+use mathlib.Core.List.{List, _++_}
+use mathlib.Core.Option.{Option, none, some}
+use Prim.Native.Nat.{ℕ, _%_, _^_}
+use lib.ListN.{take, drop}
+use Rattle.line.specs.declared.Field.{Field}
+use Rattle.line.specs.Line.{numberField}
+use Rattle.line.specs.Answer.{Answers}
+use Rattle.subscription.specs.declared.Subscription.{Subscription}
+use Rattle.subscription.specs.Table.{Call, Table, step}
+use Rattle.statistics.specs.declared.Statistics.{Statistics}
+use Rattle.subscriptions.specs.Receive.{statisticsAfter}
+use Rattle.lent.specs.Lent.{lentTable}
+use Rattle.scenario_pd_words.specs.Words.{answerWords}
+use Rattle.scenario_pd.specs.declared.Slots.{Slots}
+
+-- what is made of a line's field of n digits behind another
+unfoldable pub withNumber : {A : Type 0} → List ℕ → Field → ℕ → (Field → A) → A
+withNumber s before n said = said (numberField s before n)
+
+-- the number of 32 bits that a field of 8 digits says
+abbrev pub wordIn : Field → ℕ
+wordIn f = f .value % 2 ^ 32
+
+-- what a call is lent: so many slots, from slot 0 on, and so many octets of the store
+abbrev pub lentOf : Slots → List ℕ → Table
+lentOf t store = lentTable (t .lent) (t .records) (take (t .octets) store)
+
+abbrev pub withRecords : List Subscription → Slots → Slots
+withRecords rs t = record { records = rs; lent = t .lent; octets = t .octets }
+
+-- the words of a line's answer, none where it is a bad line; the slots and the store after it
+pub record Effect : Type 0 where
+  pub words : Option (List (List ℕ))
+  pub slots : Slots
+  pub store : List ℕ
+
+-- words, or a bad line: all stays as it was
+abbrev pub saying : Option (List (List ℕ)) → Slots → List ℕ → Effect
+saying words t store = record { words = words; slots = t; store = store }
+
+-- a call answers and leaves what the table's rules say of the slots and octets lent; the others stay
+unfoldable pub calling : Option Call → Slots → List ℕ → Effect
+calling none t store = saying none t store
+calling (some c) t store =
+    record {
+      words = some (answerWords (step c (lentOf t store) .answer));
+      slots = withRecords (step c (lentOf t store) .after .records ++ drop (t .lent) (t .records)) t;
+      store = step c (lentOf t store) .after .store ++ drop (t .octets) store;
+    }
+
+-- the statistics after a call: a telegram is added
+unfoldable pub counting : Option Call → Slots → List ℕ → Statistics → Statistics
+counting none t store statistics = statistics
+counting (some c) t store statistics = statisticsAfter c (step c (lentOf t store) .answer) statistics
+
+-- a line's answer is put at a place of a room, and slots and store are left as its effect says
+pub record Turns (e : Effect) (at : ℕ) (room : List ℕ) (slots : Slots) (store : List ℕ) (at′ : ℕ) (room′ : List ℕ) : Type 0 where
+  pub words : Answers (e .words) at room at′ room′
+  pub slots-after : slots ≡ e .slots
+  pub store-after : store ≡ e .store

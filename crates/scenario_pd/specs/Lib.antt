@@ -1,0 +1,3 @@
+pub mod Effect
+pub mod Look
+pub mod Lines
