@@ -85,12 +85,13 @@ fn frame_checks() {
 fn pd_taken_apart() {
     let datagram = &scene::pd_datagram(100);
     let proved = |datagram: &[u8]| PdHeader::take(datagram).map_err(Refusal::number);
-    let functions: [(_, TakePd); 3] =
-        [("plain", headers::take_pd), ("plain, eight tables", headers::take_pd_by_eight), ("proved", proved)];
+    let plain = |datagram: &[u8]| headers::take_pd(datagram, fcs::frame_check);
+    let by_eight = |datagram: &[u8]| headers::take_pd(datagram, fcs::frame_check_by_eight);
+    let functions: [(_, TakePd); 3] = [("plain", plain), ("plain, eight tables", by_eight), ("proved", proved)];
     let mut contestants = Vec::new();
     for (name, function) in functions {
         assert!(function(datagram).is_ok());
-        assert_eq!(function(datagram), headers::take_pd(datagram), "{name}");
+        assert_eq!(function(datagram), plain(datagram), "{name}");
         contestants.push(contestant(name, move || {
             black_box(function(black_box(datagram))).ok();
         }));
@@ -100,13 +101,19 @@ fn pd_taken_apart() {
 
 fn deliveries() {
     let mut plain = scene::Deliveries::new();
+    let mut by_eight = scene::Deliveries::new();
     let mut proved = proved::Deliveries::new();
-    assert_eq!(plain.deliver(), Ok(1));
+    assert_eq!(plain.deliver(fcs::frame_check), Ok(1));
+    assert_eq!(by_eight.deliver(fcs::frame_check_by_eight), Ok(1));
     assert_eq!(proved.deliver(), Ok(1));
+    assert_eq!(plain.taken(), by_eight.taken());
     assert_eq!(plain.taken(), proved.taken());
     let mut contestants = [
         contestant("plain", || {
-            black_box(black_box(&mut plain).deliver()).expect("each telegram is fresh");
+            black_box(black_box(&mut plain).deliver(fcs::frame_check)).expect("each telegram is fresh");
+        }),
+        contestant("plain, eight tables", || {
+            black_box(black_box(&mut by_eight).deliver(fcs::frame_check_by_eight)).expect("each telegram is fresh");
         }),
         contestant("proved", || {
             black_box(black_box(&mut proved).deliver()).expect("each telegram is fresh");
@@ -117,12 +124,17 @@ fn deliveries() {
 
 fn requests() {
     let mut plain = scene::Requests::new();
+    let mut by_eight = scene::Requests::new();
     let mut proved = proved::Requests::new();
-    assert_eq!(plain.request(), Ok((scene::HEARING, 0)));
+    assert_eq!(plain.request(fcs::frame_check), Ok((scene::HEARING, 0)));
+    assert_eq!(by_eight.request(fcs::frame_check_by_eight), Ok((scene::HEARING, 0)));
     assert_eq!(proved.request(), Ok((scene::HEARING, 0)));
     let mut contestants = [
         contestant("plain", || {
-            black_box(black_box(&mut plain).request()).expect("a session is free");
+            black_box(black_box(&mut plain).request(fcs::frame_check)).expect("a session is free");
+        }),
+        contestant("plain, eight tables", || {
+            black_box(black_box(&mut by_eight).request(fcs::frame_check_by_eight)).expect("a session is free");
         }),
         contestant("proved", || {
             black_box(black_box(&mut proved).request()).expect("a session is free");

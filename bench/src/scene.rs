@@ -1,6 +1,6 @@
 //! The input of each measurement, the same for every contestant.
 
-use crate::plain::fcs::frame_check;
+use crate::plain::fcs::{frame_check, FrameCheck};
 use crate::plain::headers::{MD_HEADER, MD_REQUEST, PD_HEADER};
 use crate::plain::sessions::{Listener, Tables};
 use crate::plain::subscriptions::{self, Statistics, Subscription, PART};
@@ -92,10 +92,10 @@ impl Deliveries {
     }
 
     /// One telegram, from one sender and the other in turn.
-    pub fn deliver(&mut self) -> Result<usize, u8> {
+    pub fn deliver(&mut self, frame_check: impl FrameCheck) -> Result<usize, u8> {
         self.turn += 1;
         let Deliveries { slots, store, statistics, datagram, turn } = self;
-        subscriptions::receive(slots, store, &arrival(*turn), datagram, statistics)
+        subscriptions::receive(slots, store, &arrival(*turn), datagram, statistics, frame_check)
     }
 
     pub fn taken(&self) -> &[u8] {
@@ -122,10 +122,10 @@ impl Requests {
     }
 
     /// A request opens a session; the user's reply frees it, so that the next finds the same table.
-    pub fn request(&mut self) -> Result<(usize, usize), u8> {
+    pub fn request(&mut self, frame_check: impl FrameCheck) -> Result<(usize, usize), u8> {
         self.turn += 1;
         let Requests { tables, statistics, datagram, turn } = self;
-        let opened = sessions::request(tables, &arrival(*turn), datagram, statistics)?;
+        let opened = sessions::request(tables, &arrival(*turn), datagram, statistics, frame_check)?;
         sessions::reply(tables, opened.1)?;
         Ok(opened)
     }

@@ -1,5 +1,10 @@
 //! The frame check: the usual table of 256, and eight such tables for eight octets a turn.
 
+/// A frame check that a header reader is given; each has a reader of its own compiled for it.
+pub trait FrameCheck: Fn(&[u8]) -> u32 + Copy {}
+
+impl<F: Fn(&[u8]) -> u32 + Copy> FrameCheck for F {}
+
 const TABLES: [[u32; 256]; 8] = tables();
 
 /// The register after `count` zero octets behind each octet.

@@ -1,6 +1,6 @@
 //! PD and MD headers.
 
-use super::fcs::{frame_check, frame_check_by_eight};
+use super::fcs::FrameCheck;
 use super::Arrival;
 
 pub use trdp::{Common, PdHeader};
@@ -53,7 +53,7 @@ const PD: Family = Family { header: PD_HEADER, limit: 1432, types: &[0x5064, 0x5
 const MD: Family = Family { header: MD_HEADER, limit: 65388, types: &[0x4D6E, MD_REQUEST, 0x4D70, 0x4D71, 0x4D63, 0x4D65] };
 
 /// Checks 2 to 6.
-fn judge(datagram: &[u8], family: &Family, frame_check: impl Fn(&[u8]) -> u32) -> Result<Common, u8> {
+fn judge(datagram: &[u8], family: &Family, frame_check: impl FrameCheck) -> Result<Common, u8> {
     let Family { header, limit, types } = *family;
     if datagram.len() < header {
         return Err(2);
@@ -75,22 +75,13 @@ fn judge(datagram: &[u8], family: &Family, frame_check: impl Fn(&[u8]) -> u32) -
     Ok(common)
 }
 
-fn pd_taken(datagram: &[u8], frame_check: impl Fn(&[u8]) -> u32) -> Result<PdHeader, u8> {
+#[inline(never)]
+pub fn take_pd(datagram: &[u8], frame_check: impl FrameCheck) -> Result<PdHeader, u8> {
     let common = judge(datagram, &PD, frame_check)?;
     Ok(PdHeader { common, reserved: big4(datagram, 24), reply_com_id: big4(datagram, 28), reply_ip_address: big4(datagram, 32) })
 }
 
-#[inline(never)]
-pub fn take_pd(datagram: &[u8]) -> Result<PdHeader, u8> {
-    pd_taken(datagram, frame_check)
-}
-
-#[inline(never)]
-pub fn take_pd_by_eight(datagram: &[u8]) -> Result<PdHeader, u8> {
-    pd_taken(datagram, frame_check_by_eight)
-}
-
-pub fn take_md(datagram: &[u8]) -> Result<MdHeader<'_>, u8> {
+pub fn take_md(datagram: &[u8], frame_check: impl FrameCheck) -> Result<MdHeader<'_>, u8> {
     let common = judge(datagram, &MD, frame_check)?;
     Ok(MdHeader {
         common,

@@ -1,5 +1,6 @@
 //! An MD request opening a session, and the user's reply that frees it.
 
+use super::fcs::FrameCheck;
 use super::headers::{judge_topography, take_md, MdHeader, MD_REQUEST};
 use super::subscriptions::Statistics;
 use super::{Arrival, SenderRange};
@@ -65,14 +66,15 @@ pub fn request(
     arrival: &Arrival,
     datagram: &[u8],
     statistics: &mut Statistics,
+    frame_check: impl FrameCheck,
 ) -> Result<(usize, usize), u8> {
-    let outcome = open(tables, arrival, datagram);
+    let outcome = open(tables, arrival, datagram, frame_check);
     statistics.add(outcome.err().unwrap_or(0));
     outcome
 }
 
-fn open(tables: &mut Tables, arrival: &Arrival, datagram: &[u8]) -> Result<(usize, usize), u8> {
-    let header = take_md(datagram)?;
+fn open(tables: &mut Tables, arrival: &Arrival, datagram: &[u8], frame_check: impl FrameCheck) -> Result<(usize, usize), u8> {
+    let header = take_md(datagram, frame_check)?;
     judge_topography(&header.common, arrival)?;
     if uri(header.source_uri).is_none() || uri(header.destination_uri).is_none() {
         return Err(20);

@@ -1,5 +1,6 @@
 //! Delivering a PD telegram into the lent table.
 
+use super::fcs::FrameCheck;
 use super::headers::{judge_topography, take_pd, PD_HEADER};
 use super::{Arrival, SenderRange};
 
@@ -56,17 +57,24 @@ pub fn receive(
     arrival: &Arrival,
     datagram: &[u8],
     statistics: &mut Statistics,
+    frame_check: impl FrameCheck,
 ) -> Result<usize, u8> {
     if slots.len() > 32 || store.len() != PART * slots.len() {
         return Err(1);
     }
-    let outcome = deliver(slots, store, arrival, datagram);
+    let outcome = deliver(slots, store, arrival, datagram, frame_check);
     statistics.add(outcome.err().unwrap_or(0));
     outcome
 }
 
-fn deliver(slots: &mut [Subscription], store: &mut [u8], arrival: &Arrival, datagram: &[u8]) -> Result<usize, u8> {
-    let header = take_pd(datagram)?;
+fn deliver(
+    slots: &mut [Subscription],
+    store: &mut [u8],
+    arrival: &Arrival,
+    datagram: &[u8],
+    frame_check: impl FrameCheck,
+) -> Result<usize, u8> {
+    let header = take_pd(datagram, frame_check)?;
     judge_topography(&header.common, arrival)?;
     let counter = header.common.sequence_counter;
     let dataset = &datagram[PD_HEADER..PD_HEADER + header.common.dataset_length as usize];
