@@ -1,19 +1,13 @@
--- The octets stored one by one are the number, least significant first.
+-- The octets are stored one by one.
 use native.Mathlib.Omega.{arith}
 use lib.ListN.{length-set}
 use borrow.Author.Needs.{needs}
 use Rattle.octets.proofs.Parts.{put-stored}
-use Rattle.octets.proofs.put_little4.Statement.{statement}
-use Rattle.octets.proofs.put_little4.Tie as tie
-
-cast-target : tie.Need-cast-target
-cast-target c = search needs
+use Rattle.octets.proofs.put_four.Statement.{statement}
+use Rattle.octets.proofs.put_four.Tie as tie
 
 slice-write-target : tie.Need-slice-write-target
 slice-write-target c = search needs
-
-cast-target-2 : tie.Need-cast-target-2
-cast-target-2 c = search needs
 
 add-target : tie.Need-add-target
 add-target c = search needs
@@ -21,17 +15,11 @@ add-target c = search needs
 slice-write-target-2 : tie.Need-slice-write-target-2
 slice-write-target-2 c = simp length-set (omega arith)
 
-cast-target-3 : tie.Need-cast-target-3
-cast-target-3 c = search needs
-
 add-target-2 : tie.Need-add-target-2
 add-target-2 c = search needs
 
 slice-write-target-3 : tie.Need-slice-write-target-3
 slice-write-target-3 c = simp length-set (omega arith)
-
-cast-target-4 : tie.Need-cast-target-4
-cast-target-4 c = search needs
 
 add-target-3 : tie.Need-add-target-3
 add-target-3 c = search needs
@@ -45,20 +33,7 @@ same-length c = search needs
 returns : tie.Need-returns
 returns c = put-stored _ _ (c .args .target .now) (c .args .k) (search needs)
 
-pub put-little4-spec : {M : Type 1} → statement M
-put-little4-spec =
+pub put-four-spec : {M : Type 1} → statement M
+put-four-spec =
     tie.close
-    (tie.spec
-    cast-target
-    slice-write-target
-    cast-target-2
-    add-target
-    slice-write-target-2
-    cast-target-3
-    add-target-2
-    slice-write-target-3
-    cast-target-4
-    add-target-3
-    slice-write-target-4
-    same-length
-    returns)
+    (tie.spec slice-write-target add-target slice-write-target-2 add-target-2 slice-write-target-3 add-target-3 slice-write-target-4 same-length returns)
