@@ -1,12 +1,12 @@
 -- A minus sign and the absolute value, or the number itself.
 use mathlib.Core.Path.{sym}
 use native.Mathlib.Omega.{arith}
-use Rattle.line.specs.Answer.{signed}
+use Rattle.answer.specs.Answer.{signed}
 use borrow.Author.Needs.{needs}
-use Rattle.line.proofs.Rooms.{pieces, _⨟_}
-use Rattle.line.proofs.Decimals.{negative, not-negative}
-use Rattle.line.proofs.answer.signed.Statement.{statement}
-use Rattle.line.proofs.answer.signed.Tie as tie
+use Rattle.answer.proofs.Rooms.{pieces, _⨟_}
+use Rattle.answer.proofs.Decimals.{negative, not-negative}
+use Rattle.answer.proofs.signed.Statement.{statement}
+use Rattle.answer.proofs.signed.Tie as tie
 
 to-unsigned-requires : tie.Need-to-unsigned-requires
 to-unsigned-requires c κs = search needs

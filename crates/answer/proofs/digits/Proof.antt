@@ -3,12 +3,12 @@ use mathlib.Core.Path.{_≡_, ap, _∙_}
 use mathlib.Core.List.{List, [], _∷_}
 use Prim.Native.Nat.{ℕ}
 use lib.ListN.{take}
-use Rattle.line.specs.Answer.{decimalOf}
+use Rattle.answer.specs.Answer.{decimalOf}
 use borrow.Author.Needs.{needs}
-use Rattle.line.proofs.Rooms.{pieces}
-use Rattle.line.proofs.Decimals.{decimal-is}
-use Rattle.line.proofs.answer.digits.Statement.{statement}
-use Rattle.line.proofs.answer.digits.Tie as tie
+use Rattle.answer.proofs.Rooms.{pieces}
+use Rattle.answer.proofs.Decimals.{decimal-is}
+use Rattle.answer.proofs.digits.Statement.{statement}
+use Rattle.answer.proofs.digits.Tie as tie
 
 decimal-requires : tie.Need-decimal-requires
 decimal-requires c κs = search needs

@@ -3,12 +3,12 @@ use mathlib.Core.Path.{_≡_}
 use Prim.Native.Nat.{_+_, _*_}
 use native.Mathlib.Omega.{arith}
 use lib.ListN.{length}
-use Rattle.line.specs.Answer.{spaced, octets}
+use Rattle.answer.specs.Answer.{spaced, octets}
 use Rattle.capture.specs.Hex.{hexOf}
 use borrow.Author.Needs.{needs}
-use Rattle.line.proofs.Rooms.{fits, over, within, hex-length, _⨟_}
-use Rattle.line.proofs.answer.octets.Statement.{statement}
-use Rattle.line.proofs.answer.octets.Tie as tie
+use Rattle.answer.proofs.Rooms.{fits, over, within, hex-length, _⨟_}
+use Rattle.answer.proofs.octets.Statement.{statement}
+use Rattle.answer.proofs.octets.Tie as tie
 
 slice-aggregate-text : tie.Need-slice-aggregate-text
 slice-aggregate-text c = search needs

@@ -1,8 +1,8 @@
 // An answer gathered in a room of octets, piece by piece. Each function answers the place behind its pieces; a piece that does not fit is left out, and
 // then the place is the room's end.
 ghost use mathlib.Core.List.{[], _∷_};
-ghost use Rattle.line.specs.Answer.{Puts, spaced, decimalOf};
-ghost use Rattle.line.specs.Answer.{decimal as decimalWord, number as numberWord, octets as octetsWord, signed as signedWord, wordOf, refused as refusedWord};
+ghost use Rattle.answer.specs.Answer.{Puts, spaced, decimalOf};
+ghost use Rattle.answer.specs.Answer.{decimal as decimalWord, number as numberWord, octets as octetsWord, signed as signedWord, wordOf, refused as refusedWord};
 
 // Octets put at a place.
 pub fn text(out: &mut [u8], at: usize, s: &[u8]) -> usize

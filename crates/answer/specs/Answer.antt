@@ -1,14 +1,14 @@
--- An answer gathered in a room of octets, piece by piece; the words of a line; a line gathered, and where it ends.
-use Prim.Native.Nat.{ℕ, zero, suc, _+_, _*_, _/_, _%_, max}
+-- An answer gathered in a room of octets, piece by piece, and its words.
+use Prim.Native.Nat.{ℕ, zero, suc, _+_, _/_, _%_}
 use Prim.Native.Char.{code}
 use Prim.Native.String.{String, [] as none, _∷_ as _then_}
 use mathlib.Core.Path.{_≡_}
 use mathlib.Core.List.{List, [], _∷_, _++_}
-use mathlib.Core.Bool.{Bool, false, cond, _||_}
+use mathlib.Core.Bool.{cond}
 use mathlib.Core.Option.{Option, none as nothing, some}
-use lib.Dec.{eqb, ltb, leb}
+use lib.Dec.{ltb, leb}
 use lib.IntN.{ℤ, pos, negsuc}
-use lib.ListN.{length, drop}
+use lib.ListN.{length}
 use Rattle.octets.specs.Octets.{put}
 use Rattle.capture.specs.Hex.{digitsOf, hexOf}
 
@@ -90,28 +90,3 @@ wordOf s x = spaced s ++ decimal x
 -- `refused` and a number of document 01
 abbrev pub refused : ℕ → List (List ℕ)
 refused r = wordOf (ascii "refused") r
-
--- an octet of them is LF
-abbrev pub hasEnd : List ℕ → Bool
-hasEnd [] = false
-hasEnd (x ∷ s) = eqb x 10 || hasEnd s
-
--- how many octets stand before the first LF; all where there is none
-abbrev pub untilEnd : List ℕ → ℕ
-untilEnd [] = 0
-untilEnd (x ∷ s) = cond (eqb x 10) 0 (suc (untilEnd s))
-
--- the place of the first LF from a place on; the block's end where there is none
-abbrev pub firstEnd : List ℕ → ℕ → ℕ
-firstEnd block from = from + untilEnd (drop from block)
-
--- a line begun, with more octets; one too long stays as it was, and its count is beyond its room
-unfoldable pub gathered : List ℕ → Room → Room
-gathered more r =
-    cond (leb (r .at + length more) (length (r .octets)))
-    (room (r .at + length more) (put (r .at) more (r .octets)))
-    (room (max (r .at) (length (r .octets) + 1)) (r .octets))
-
--- how many octets of a line there are once it has ended: none where it is too long
-abbrev pub endedOf : List ℕ → ℕ → ℕ
-endedOf line begun = cond (leb begun (length line)) begun 0

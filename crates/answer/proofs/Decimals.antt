@@ -15,7 +15,7 @@ use mir.Val.{SFits, ofZ, toZ}
 use mir.Facts.{toZ-ofZ}
 use Rattle.octets.specs.Octets.{unsigned}
 use Rattle.io.specs.Digits.{glyph, digits, Fewest}
-use Rattle.line.specs.Answer.{ascii, decimalIn, decimalOf, decimal, signed}
+use Rattle.answer.specs.Answer.{ascii, decimalIn, decimalOf, decimal, signed}
 
 figure : (x : ℕ) → glyph (x % 10) ≡ 48 + x % 10
 figure x = ap (λ (b : Bool). cond b (48 + x % 10) (87 + x % 10)) (lt-ltb (x % 10) 10 (omega arith))

@@ -4,9 +4,9 @@ use Prim.Native.Nat.{_+_}
 use native.Mathlib.Omega.{arith}
 use lib.ListN.{length}
 use borrow.Author.Needs.{needs}
-use Rattle.line.proofs.Rooms.{fits, over}
-use Rattle.line.proofs.answer.text.Statement.{statement}
-use Rattle.line.proofs.answer.text.Tie as tie
+use Rattle.answer.proofs.Rooms.{fits, over}
+use Rattle.answer.proofs.text.Statement.{statement}
+use Rattle.answer.proofs.text.Tie as tie
 
 sub-if2 : tie.Need-sub-if2
 sub-if2 c = search needs

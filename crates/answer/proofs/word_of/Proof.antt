@@ -1,8 +1,8 @@
 -- A word and a number behind it.
 use borrow.Author.Needs.{needs}
-use Rattle.line.proofs.Rooms.{_⨟_}
-use Rattle.line.proofs.answer.word_of.Statement.{statement}
-use Rattle.line.proofs.answer.word_of.Tie as tie
+use Rattle.answer.proofs.Rooms.{_⨟_}
+use Rattle.answer.proofs.word_of.Statement.{statement}
+use Rattle.answer.proofs.word_of.Tie as tie
 
 word-requires : tie.Need-word-requires
 word-requires c κs = search needs

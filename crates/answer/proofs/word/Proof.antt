@@ -1,8 +1,8 @@
 -- A space and the piece behind it.
 use borrow.Author.Needs.{needs}
-use Rattle.line.proofs.Rooms.{behind-space}
-use Rattle.line.proofs.answer.word.Statement.{statement}
-use Rattle.line.proofs.answer.word.Tie as tie
+use Rattle.answer.proofs.Rooms.{behind-space}
+use Rattle.answer.proofs.word.Statement.{statement}
+use Rattle.answer.proofs.word.Tie as tie
 
 slice-aggregate-text : tie.Need-slice-aggregate-text
 slice-aggregate-text c = search needs

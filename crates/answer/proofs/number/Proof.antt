@@ -3,13 +3,13 @@ use mathlib.Core.Path.{_≡_}
 use Prim.Native.Nat.{_+_}
 use native.Mathlib.Omega.{arith}
 use lib.ListN.{length}
-use Rattle.line.specs.Answer.{spaced, number}
+use Rattle.answer.specs.Answer.{spaced, number}
 use Rattle.capture.specs.Hex.{digitsOf}
 use Rattle.capture.proofs.Written.{digits-length}
 use borrow.Author.Needs.{needs}
-use Rattle.line.proofs.Rooms.{fits, over, within, _⨟_}
-use Rattle.line.proofs.answer.number.Statement.{statement}
-use Rattle.line.proofs.answer.number.Tie as tie
+use Rattle.answer.proofs.Rooms.{fits, over, within, _⨟_}
+use Rattle.answer.proofs.number.Statement.{statement}
+use Rattle.answer.proofs.number.Tie as tie
 
 slice-aggregate-text : tie.Need-slice-aggregate-text
 slice-aggregate-text c = search needs

@@ -2,37 +2,22 @@
 -- Assumes nothing.
 use mathlib.Core.Path.{_≡_, refl, sym, ap, ap₂, _∙_}
 use mathlib.Core.Bool.{Bool, true, false, cond}
-use mathlib.Core.List.{List, [], _∷_, _++_, append-nil, append-assoc, flatten}
+use mathlib.Core.List.{List, [], _∷_, _++_, flatten}
 use Prim.Native.Nat.{ℕ, _+_, _*_, _<_, _≤_}
 use native.Mathlib.Nat.{add-zero}
 use native.Mathlib.Omega.{arith}
-use borrow.Author.Tests.{le-leb, lt-leb, leb-true, leb-false}
+use borrow.Author.Tests.{le-leb, lt-leb, leb-true}
 use lib.Dec.{leb}
-use lib.ListN.{length, take, drop, length-append, length-take, length-drop}
-use lib.Seq.{take-at, drop-at, drop-drop, length-take-le}
+use lib.ListN.{length, length-append, length-take, length-drop}
 use Rattle.octets.specs.Octets.{put}
 use Rattle.capture.specs.Hex.{hexOf}
-use Rattle.capture.proofs.Written.{put-none}
-use mathlib.Core.Option.{none, some}
-use Rattle.line.specs.Answer.{Room, room, putPiece, putAll, Puts, Answers, ascii, spaced}
+use Rattle.octets.proofs.Halves.{put-append, put-nil}
+use mathlib.Core.Option.{Option, none, some}
+use Rattle.answer.specs.Answer.{Room, room, putPiece, putAll, Puts, answeredBy, Answers, ascii, spaced}
 
 -- what is written within a list leaves its length
 pub put-length : (k : ℕ) (t s : List ℕ) → k + length t ≤ length s → length (put k t s) ≡ length s
 put-length k t s h = simp (length-append, length-take, length-drop) (omega arith)
-
--- what is written behind another
-pub put-put : (k : ℕ) (s t o : List ℕ) → k + length s ≤ length o → put (k + length s) t (put k s o) ≡ put k (s ++ t) o
-put-put k s t o h =
-    let n : ℕ = k + length s in
-    let xs : List ℕ = take k o ++ s in
-    let l : length xs ≡ n = length-append (take k o) s ∙ ap (λ (m : ℕ). m + length s) (length-take-le k o (omega arith)) in
-    let a : take n (xs ++ drop n o) ≡ xs = take-at xs (drop n o) n l in
-    let b : drop (n + length t) (xs ++ drop n o) ≡ drop (n + length t) o =
-    sym (drop-drop (length t) n (xs ++ drop n o)) ∙ ap (drop (length t)) (drop-at xs (drop n o) n l) ∙ drop-drop (length t) n o in
-    let m : n + length t ≡ k + length (s ++ t) = simp length-append (omega arith) in
-    ap₂ (λ (x d : List ℕ). x ++ t ++ d) a b
-    ∙ ap (λ (x : List ℕ). x ++ drop (n + length t) o) (append-assoc (take k o) s t)
-    ∙ ap (λ (j : ℕ). take k o ++ (s ++ t) ++ drop j o) m
 
 -- a piece that fits
 pub piece-fits : (s : List ℕ) (at : ℕ) (o : List ℕ) → at + length s ≤ length o → putPiece s (room at o) ≡ room (at + length s) (put at s o)
@@ -78,13 +63,13 @@ putAll-within s ss at o =
 -- pieces that all fit stand one behind the other at the place
 pub putAll-fits : (ss : List (List ℕ)) (at : ℕ) (o : List ℕ) → at + length (flatten ss) ≤ length o → putAll ss (room at o) ≡ room (at + length (flatten ss)) (put at (flatten ss) o)
 unfolding flatten
-putAll-fits [] at o h = ap₂ room (sym (add-zero at)) (sym (put-none at o))
+putAll-fits [] at o h = ap₂ room (sym (add-zero at)) (sym (put-nil o at))
 putAll-fits (s ∷ ss) at o h =
     let l : length (s ++ flatten ss) ≡ length s + length (flatten ss) = length-append s (flatten ss) in
     let n : at + length s + length (flatten ss) ≡ at + length (s ++ flatten ss) = omega arith in
     ap (putAll ss) (piece-fits s at o (omega arith))
     ∙ putAll-fits ss (at + length s) (put at s o) (omega (arith, put-length at s o (omega arith)))
-    ∙ ap₂ room n (put-put at s (flatten ss) o (omega arith))
+    ∙ ap₂ room n (put-append s (flatten ss) o at (omega arith))
 
 -- one piece
 pub fits : (s : List ℕ) (at r : ℕ) {o o′ : List ℕ} → r ≡ at + length s → r ≤ length o → o′ ≡ put at s o → Puts (s ∷ []) at o r o′
@@ -139,6 +124,18 @@ answered x = record { answers = x .puts }
 
 pub unanswered : (at : ℕ) (o : List ℕ) → Answers none at o 0 o
 unanswered at o = record { answers = refl }
+
+-- a line's answer in other words; nothing; pieces
+module _ {x : Option (List (List ℕ))} where
+  pub answered-as : {y : Option (List (List ℕ))} {at r : ℕ} {o o′ : List ℕ} → x ≡ y → Answers y at o r o′ → Answers x at o r o′
+  answered-as {y} {at} {r} {o} e a =
+      record { answers = a .answers ∙ ap (λ (z : Option (List (List ℕ))). answeredBy z (room at o)) (sym e) }
+
+  pub not-answered : x ≡ none → (at : ℕ) (o : List ℕ) → Answers x at o 0 o
+  not-answered e at o = answered-as e (record { answers = refl })
+
+  pub answered-by : {ss : List (List ℕ)} {at r : ℕ} {o o′ : List ℕ} → x ≡ some ss → Puts ss at o r o′ → Answers x at o r o′
+  answered-by e p = answered-as e (record { answers = p .puts })
 
 -- octets take two digits each
 pub hex-length : (s : List ℕ) → length (hexOf s) ≡ 2 * length s
