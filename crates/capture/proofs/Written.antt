@@ -1,19 +1,16 @@
 -- A part written octet by octet: from its front, and from its end.
 -- Assumes nothing.
 use mathlib.Core.Path.{_≡_, refl, sym, ap, ap₂, _∙_}
-use mathlib.Core.List.{List, [], _∷_, _++_, append-nil, append-assoc}
+use mathlib.Core.List.{List, [], _∷_, _++_, append-assoc}
 use Prim.Native.Nat.{ℕ, zero, suc, _+_, _/_, _%_, _<_}
-use native.Mathlib.Nat.{add-zero, zero-add}
+use native.Mathlib.Nat.{zero-add}
 use native.Mathlib.Numerals.{add-one}
 use native.Mathlib.Omega.{arith}
-use lib.ListN.{length, getD, take, drop, set, length-append, length-set, take-append-drop}
+use lib.ListN.{length, getD, take, drop, set, length-append, length-set}
 use lib.Seq.{drop-cons, take-suc-set, take-set-le, drop-set-lt, getD-set-same, append-snoc, take-length}
 use Rattle.octets.specs.Octets.{put}
 use Rattle.octets.proofs.Parts.{over}
 use Rattle.capture.specs.Hex.{digitOf, digitsOf, hexOf}
-
-pub put-none : (k : ℕ) (t : List ℕ) → put k [] t ≡ t
-put-none k t = rw (append-nil, add-zero) (take-append-drop k t)
 
 pub put-first : (k x : ℕ) (s t : List ℕ) → k < length t → put (k + 1) s (set t k x) ≡ put k (x ∷ s) t
 put-first k x s t h =

@@ -57,10 +57,14 @@ fieldsOf s = record { sender = numberAt 8 0 s; destination = numberAt 8 9 s; tim
 abbrev pub frameOf : List ℕ → FrameLine
 frameOf s = cond (isFrame s) (frame.Frame (fieldsOf s)) frame.Bad
 
--- what reading a line answers, and a buffer after it: a frame's datagram stands in its first octets; a bad line leaves it as it was
+-- a buffer after a line was read: a frame's datagram stands in its first octets; a bad line leaves it as it was
+abbrev pub bufferAfter : List ℕ → List ℕ → List ℕ
+bufferAfter s before = cond (isFrame s) (put 0 (datagramOf s) before) before
+
+-- what reading a line answers, and the buffer after it
 pub record Reads (s before : List ℕ) (r : FrameLine) (after : List ℕ) : Type 0 where
   pub answer : r ≡ frameOf s
-  pub buffer : after ≡ cond (isFrame s) (put 0 (datagramOf s) before) before
+  pub buffer : after ≡ bufferAfter s before
 
 -- the line that writes a frame
 abbrev pub lineOf : ℕ → ℕ → ℕ → List ℕ → List ℕ

@@ -9,7 +9,8 @@ use borrow.Author.Tests.{eq-eqb, ltb-true, ltb-false}
 use lib.Dec.{eqb, ltb}
 use lib.ListN.{length, getD, take, drop, length-drop}
 use Rattle.refusal.specs.Refusal.{description, dataLength}
-use Rattle.dataset.specs.Descriptions.{scalarTypes, partsOf, Element, elementsOf, malformed, Found, described, fault, scan, lookUp}
+use Rattle.scalars.specs.Scalars.{scalarTypes, partsOf}
+use Rattle.dataset.specs.Descriptions.{Element, elementsOf, malformed, Found, described, fault, scan, lookUp}
 use Rattle.dataset.specs.Walk.{Walked, stopped, walked, behind, then, times, turned, Count, none, countBehind, withItems, itemsOf, walkOf, throughFound, nestedOf}
 use Rattle.dataset.specs.declared.Form.{Form}
 use Rattle.dataset.proofs.Walks.{Takes, takes-here, takes-part, takes-more, of-turned, of-times, of-walk, of-nested}

@@ -1,7 +1,6 @@
 pub mod Walks
 pub mod Steps
 pub mod Descriptions
-pub mod Shapes
 pub mod Turns
 pub mod Falls
 pub mod Counts

@@ -10,8 +10,9 @@ use borrow.Author.Tests.{ne-eqb, lt-ltb, ltb-true, ltb-false}
 use lib.Dec.{ltb}
 use lib.ListN.{length, getD, drop}
 use Rattle.refusal.specs.Refusal.{nesting, description, dataLength}
-use Rattle.dataset.specs.Descriptions.{partsOf, Element, elementsOf, Found, described, fault, lookUp}
-use Rattle.dataset.specs.Walk.{Walked, stopped, walked, behind, then, times, size, counts, Count, none, countBehind, withItems, itemsOf, walkOf, throughFound, nestedOf}
+use Rattle.scalars.specs.Scalars.{partsOf, size}
+use Rattle.dataset.specs.Descriptions.{Element, elementsOf, Found, described, fault, lookUp}
+use Rattle.dataset.specs.Walk.{Walked, stopped, walked, behind, then, times, counts, Count, none, countBehind, withItems, itemsOf, walkOf, throughFound, nestedOf}
 use Rattle.dataset.specs.Steps.{element, countOf, itemsFor, foundAt, stepOf, Stepped}
 use Rattle.dataset.specs.declared.Form.{Form}
 use Rattle.dataset.specs.declared.Place.the-variants.{Elements, Fault}

@@ -11,8 +11,9 @@ use lib.Dec.{eqb, ltb}
 use lib.ListN.{length, take, drop, length-append, length-reverse, take-append-drop}
 use lib.Seq.{take-at, drop-at, length-take-le}
 use Rattle.refusal.specs.Refusal.{dataLength}
-use Rattle.dataset.specs.Descriptions.{partsOf, Element, Found, described, fault, lookUp}
-use Rattle.dataset.specs.Walk.{Walked, stopped, walked, behind, then, times, turned, size, counts, numberOf, Count, none, value, countBehind, withItems, itemsOf, walkOf, throughFound, nestedOf, wholeOf}
+use Rattle.scalars.specs.Scalars.{partsOf, size}
+use Rattle.dataset.specs.Descriptions.{Element, Found, described, fault, lookUp}
+use Rattle.dataset.specs.Walk.{Walked, stopped, walked, behind, then, times, turned, counts, numberOf, Count, none, value, countBehind, withItems, itemsOf, walkOf, throughFound, nestedOf, wholeOf}
 use Rattle.dataset.specs.declared.Form.{Form}
 use Rattle.dataset.specs.declared.Form.the-variants.{Wire, Host}
 use Rattle.dataset.proofs.Walks.{Even, even-whole}

@@ -1,36 +1,19 @@
 -- A walk made in steps: where one step ends the next begins, and a refusal ends all.
 -- Assumes nothing.
-use mathlib.Core.Path.{_≡_, refl, sym, ap, ap₂, _∙_, subst}
-use mathlib.Core.List.{List, [], _++_, append-assoc, append-nil}
+use mathlib.Core.Path.{_≡_, refl, sym, ap, _∙_, subst}
+use mathlib.Core.List.{List, [], _++_}
 use mathlib.Core.Bool.{Bool, true}
 use Prim.Native.Nat.{ℕ, _+_, _-_, _≤_}
-use native.Mathlib.Nat.{add-zero}
 use native.Mathlib.Omega.{arith}
-use lib.ListN.{length, take, drop, length-append, length-drop, take-append-drop}
-use lib.Seq.{take-at, drop-at, drop-drop, length-take-le}
+use lib.ListN.{length, drop, length-drop}
+use lib.Seq.{drop-drop}
 use Rattle.octets.specs.Octets.{put}
+use Rattle.octets.proofs.Halves.{put-append, put-nil}
 use Rattle.dataset.specs.Walk.{Walked, stopped, walked, behind, then}
 use Rattle.dataset.specs.Steps.{Stepped}
 use Rattle.dataset.specs.declared.Step.{Step}
 use Rattle.dataset.specs.declared.Step.the-variants.{At, Refused}
 use Rattle.dataset.proofs.Walks.{Takes, Even}
-
--- ys written behind xs
-pub put-append : (xs ys o : List ℕ) (k : ℕ) → k ≤ length o → put (k + length xs) ys (put k xs o) ≡ put k (xs ++ ys) o
-put-append xs ys o k h =
-    let j : ℕ = k + length xs in
-    let f : List ℕ = take k o ++ xs in
-    let e : length f ≡ j = length-append (take k o) xs ∙ ap (λ (n : ℕ). n + length xs) (length-take-le k o h) in
-    let a : take j (f ++ drop j o) ≡ f = take-at f (drop j o) j e in
-    let b : drop (j + length ys) (f ++ drop j o) ≡ drop (j + length ys) o =
-    sym (drop-drop (length ys) j (f ++ drop j o)) ∙ ap (drop (length ys)) (drop-at f (drop j o) j e) ∙ drop-drop (length ys) j o in
-    let n : j + length ys ≡ k + length (xs ++ ys) = omega (arith, length-append xs ys) in
-    ap₂ (λ (l r : List ℕ). l ++ ys ++ r) a b
-    ∙ ap (λ (l : List ℕ). l ++ drop (j + length ys) o) (append-assoc (take k o) xs ys)
-    ∙ ap (λ (m : ℕ). take k o ++ (xs ++ ys) ++ drop m o) n
-
-pub put-nil : (o : List ℕ) (k : ℕ) → put k [] o ≡ o
-put-nil o k = ap₂ (λ (l : List ℕ) (n : ℕ). l ++ drop n o) (append-nil (take k o)) (add-zero k) ∙ take-append-drop k o
 
 -- a walk that takes nothing
 pub stays : (s : List ℕ) (p : ℕ) (write : Bool) (t : List ℕ) → p ≤ length s → Stepped (walked (drop p s) []) (length s) p write t (At p) t

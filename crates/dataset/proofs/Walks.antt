@@ -11,7 +11,8 @@ use lib.Dec.{ltb}
 use lib.ListN.{length, take, drop, length-append, length-take, length-drop, length-reverse}
 use lib.Seq.{drop-drop}
 use Rattle.refusal.specs.Refusal.{notDescribed, nesting, description, dataLength}
-use Rattle.dataset.specs.Descriptions.{partsOf, Element, Found, described, fault, scan, lookUp}
+use Rattle.scalars.specs.Scalars.{partsOf}
+use Rattle.dataset.specs.Descriptions.{Element, Found, described, fault, scan, lookUp}
 use Rattle.dataset.specs.Walk.{Walked, stopped, walked, behind, then, times, turned, Count, none, value, countBehind, withItems, itemsOf, walkOf, throughFound, unlessNone, nestedOf, wholeOf}
 use Rattle.dataset.specs.declared.Form.{Form}
 

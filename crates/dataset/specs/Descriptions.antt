@@ -1,36 +1,10 @@
--- Descriptions of datasets: scalar types, and the look-up of an id in a run of numbers.
-use Prim.Native.Nat.{ℕ, zero, suc, _+_, _*_}
+-- Descriptions of datasets: their elements, and the look-up of an id in a run of numbers.
+use Prim.Native.Nat.{ℕ, zero, suc, _*_}
 use mathlib.Core.List.{List, [], _∷_}
-use mathlib.Core.Bool.{Bool, true, false, cond, _&&_, _||_}
+use mathlib.Core.Bool.{Bool, false, cond, _||_}
 use lib.Dec.{eqb, ltb, leb}
-use lib.ListN.{length, getD, drop}
+use lib.ListN.{length, drop}
 use Rattle.refusal.specs.Refusal.{notDescribed, description}
-
--- the octets of the types 1 to 16, in the parts that are turned round each by itself
-abbrev pub scalarTypes : List (List ℕ)
-scalarTypes =
-    []
-    ∷ (1 ∷ [])  -- 1 BOOL8
-    ∷ (1 ∷ [])  -- 2 CHAR8
-    ∷ (2 ∷ [])  -- 3 UTF16
-    ∷ (1 ∷ [])  -- 4 INT8
-    ∷ (2 ∷ [])  -- 5 INT16
-    ∷ (4 ∷ [])  -- 6 INT32
-    ∷ (8 ∷ [])  -- 7 INT64
-    ∷ (1 ∷ [])  -- 8 UINT8
-    ∷ (2 ∷ [])  -- 9 UINT16
-    ∷ (4 ∷ [])  -- 10 UINT32
-    ∷ (8 ∷ [])  -- 11 UINT64
-    ∷ (4 ∷ [])  -- 12 REAL32
-    ∷ (8 ∷ [])  -- 13 REAL64
-    ∷ (4 ∷ [])  -- 14 TIMEDATE32
-    ∷ (4 ∷ 2 ∷ [])  -- 15 TIMEDATE48
-    ∷ (4 ∷ 4 ∷ [])  -- 16 TIMEDATE64
-    ∷ []
-
--- the parts of a scalar type
-abbrev pub partsOf : ℕ → List ℕ
-partsOf t = getD scalarTypes t []
 
 -- an element of a description: a type and a count
 pub record Element : Type 0 where

@@ -1,12 +1,12 @@
 -- What the functions behind `convert` promise: the look-up, the number of items, and a step of the walk.
 use Prim.Native.Nat.{ℕ, zero, suc, _+_, _-_, _*_, _≤_}
 use mathlib.Core.Path.{_≡_}
-use mathlib.Core.List.{List, [], _∷_, _++_, reverse}
+use mathlib.Core.List.{List, [], _∷_}
 use mathlib.Core.Bool.{Bool, true, false, cond}
-use lib.ListN.{length, getD, drop}
-use Rattle.octets.specs.Octets.{part, put}
+use lib.ListN.{length, drop}
+use Rattle.octets.specs.Octets.{put}
 use Rattle.dataset.specs.Descriptions.{Element, Found, described, fault, elementsOf, malformed, lookUp}
-use Rattle.dataset.specs.Walk.{Walked, stopped, walked, Count, none, value, size}
+use Rattle.dataset.specs.Walk.{Walked, stopped, walked, Count, none, value}
 use Rattle.dataset.specs.declared.Place.{Place}
 use Rattle.dataset.specs.declared.Place.the-variants.{Elements, Fault}
 use Rattle.dataset.specs.declared.Items.{Items}
@@ -46,23 +46,6 @@ itemsFor before (suc n) = Number (suc n)
 
 abbrev pub element : ℕ → ℕ → Element
 element t n = record { type = t; count = n }
-
--- the parts in which scalars are turned round, by number
-abbrev pub shapes : List (List ℕ)
-shapes = [] ∷ (1 ∷ []) ∷ (2 ∷ []) ∷ (4 ∷ []) ∷ (8 ∷ []) ∷ (4 ∷ 2 ∷ []) ∷ (4 ∷ 4 ∷ []) ∷ []
-
-abbrev pub shapeParts : ℕ → List ℕ
-shapeParts k = getD shapes k []
-
--- a scalar of such parts at p, each part turned round
-abbrev pub turnedAt : List ℕ → ℕ → List ℕ → List ℕ
-turnedAt [] p s = []
-turnedAt (k ∷ ks) p s = reverse (part k p s) ++ turnedAt ks (p + k) s
-
--- n scalars one behind the other from p on
-abbrev pub arrayAt : ℕ → List ℕ → ℕ → List ℕ → List ℕ
-arrayAt zero ks p s = []
-arrayAt (suc n) ks p s = turnedAt ks p s ++ arrayAt n ks (p + size ks) s
 
 -- the place behind a walk through data of so many octets, or its refusal
 abbrev pub stepOf : ℕ → Walked → Step

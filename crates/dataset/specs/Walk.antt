@@ -1,13 +1,14 @@
 -- The walk over a dataset, from the wire to host form and back.
-use Prim.Native.Nat.{ℕ, zero, suc, _+_, _*_}
+use Prim.Native.Nat.{ℕ, zero, suc}
 use mathlib.Core.Path.{_≡_}
 use mathlib.Core.List.{List, [], _∷_, _++_, reverse}
-use mathlib.Core.Bool.{Bool, true, false, cond, not, _&&_, _||_}
+use mathlib.Core.Bool.{Bool, cond, not, _&&_, _||_}
 use lib.Dec.{eqb, ltb}
 use lib.ListN.{length, take, drop}
 use Rattle.refusal.specs.Refusal.{_when_, firstOf, answer, after, nesting, description, dataLength, dataTarget}
 use Rattle.octets.specs.Octets.{big, little, put}
-use Rattle.dataset.specs.Descriptions.{partsOf, Element, Found, described, fault, lookUp}
+use Rattle.scalars.specs.Scalars.{partsOf, size}
+use Rattle.dataset.specs.Descriptions.{Element, Found, described, fault, lookUp}
 use Rattle.dataset.specs.declared.Form.{Form}
 use Rattle.dataset.specs.declared.Form.the-variants.{Wire, Host}
 use Rattle.dataset.specs.declared.Converted.{Converted}
@@ -51,11 +52,6 @@ pub data Count : Type 0 where
 -- UINT8, UINT16 or UINT32
 abbrev pub counts : ℕ → Bool
 counts t = eqb t 8 || eqb t 9 || eqb t 10
-
--- how many octets parts have
-abbrev pub size : List ℕ → ℕ
-size [] = 0
-size (k ∷ ks) = k + size ks
 
 -- behind an element: its value where it is a single UINT8, UINT16 or UINT32, d being the data at its start
 abbrev pub countBehind : Form → Element → List ℕ → Count

@@ -6,13 +6,14 @@ use refusal::NESTING;
 use refusal::NOT_DESCRIBED;
 ghost use mathlib.Core.Path.{_≡_};
 ghost use mathlib.Core.Bool.{true};
-ghost use mathlib.Core.List.{[], _∷_, reverse};
+ghost use mathlib.Core.List.{[], _∷_};
 ghost use Prim.Native.Nat.{_+_, _*_, _≤_};
 ghost use lib.ListN.{length, drop};
-ghost use Rattle.octets.specs.Octets.{little, part, put};
-ghost use Rattle.dataset.specs.Descriptions.{partsOf, elementsOf, typeless};
-ghost use Rattle.dataset.specs.Walk.{numberOf, turned, times, size, counts, countBehind, nestedOf, wholeOf, Converts};
-ghost use Rattle.dataset.specs.Steps.{shapeParts, LooksUp, itemsFor, countOf, element, elementsAt, turnedAt, arrayAt, Stepped};
+ghost use Rattle.octets.specs.Octets.{little, part};
+ghost use Rattle.scalars.specs.Scalars.{partsOf, size};
+ghost use Rattle.dataset.specs.Descriptions.{elementsOf, typeless};
+ghost use Rattle.dataset.specs.Walk.{numberOf, turned, times, counts, countBehind, nestedOf, wholeOf, Converts};
+ghost use Rattle.dataset.specs.Steps.{LooksUp, itemsFor, countOf, element, elementsAt, Stepped};
 
 // The form of the data walked.
 pub enum Form {
@@ -107,235 +108,20 @@ fn look_up(run: &[u32], id: u32) -> Place
     Place::Fault(NOT_DESCRIBED)
 }
 
-// The parts in which the octets of the types 0 to 16 are turned round, as numbers that SIZES lists.
-const SHAPES: [usize; 17] = [0, 1, 1, 2, 1, 2, 3, 4, 1, 2, 3, 4, 3, 4, 3, 5, 6];
-
-// How many octets: none, one, two, four, eight, four then two, four then four.
-const SIZES: [usize; 7] = [0, 1, 2, 4, 8, 6, 8];
-
-// The shape of a scalar type.
-fn shape_of(t: u32) -> usize
-    ensures { λ r. ⌜ shapeParts r ≡ partsOf t ⌝ }
-{
-    if t < 17 {
-        return SHAPES[t as usize];
-    }
-    0
-}
-
-// How many octets a shape has.
-fn size_of(shape: usize) -> usize
-    ensures { λ r. ⌜ r ≡ size (shapeParts shape) ⌝ }
-{
-    if shape < 7 {
-        return SIZES[shape];
-    }
-    0
-}
-
-// The octets of the source at p, turned round, written to the target at p.
-fn turn2(source: &[u8], p: usize, target: &mut [u8])
-    requires { ⌜ p + 2 ≤ length (now source) ⌝ }
-    requires { ⌜ p + 2 ≤ length (now target) ⌝ }
-    ensures { λ _. ⌜ now (target .exit) ≡ put p (reverse (part 2 p (now (source .entry)))) (now (target .entry)) ⌝ }
-{
-    let a = source[p];
-    let b = source[p + 1];
-    target[p] = b;
-    target[p + 1] = a;
-}
-
-fn turn4(source: &[u8], p: usize, target: &mut [u8])
-    requires { ⌜ p + 4 ≤ length (now source) ⌝ }
-    requires { ⌜ p + 4 ≤ length (now target) ⌝ }
-    ensures { λ _. ⌜ now (target .exit) ≡ put p (reverse (part 4 p (now (source .entry)))) (now (target .entry)) ⌝ }
-{
-    let a = source[p];
-    let b = source[p + 1];
-    let c = source[p + 2];
-    let d = source[p + 3];
-    target[p] = d;
-    target[p + 1] = c;
-    target[p + 2] = b;
-    target[p + 3] = a;
-}
-
-fn turn8(source: &[u8], p: usize, target: &mut [u8])
-    requires { ⌜ p + 8 ≤ length (now source) ⌝ }
-    requires { ⌜ p + 8 ≤ length (now target) ⌝ }
-    ensures { λ _. ⌜ now (target .exit) ≡ put p (reverse (part 8 p (now (source .entry)))) (now (target .entry)) ⌝ }
-{
-    let a = source[p];
-    let b = source[p + 1];
-    let c = source[p + 2];
-    let d = source[p + 3];
-    let e = source[p + 4];
-    let f = source[p + 5];
-    let g = source[p + 6];
-    let h = source[p + 7];
-    target[p] = h;
-    target[p + 1] = g;
-    target[p + 2] = f;
-    target[p + 3] = e;
-    target[p + 4] = d;
-    target[p + 5] = c;
-    target[p + 6] = b;
-    target[p + 7] = a;
-}
-
-// n scalars from p on, of one octet.
-fn array1(n: usize, source: &[u8], p: usize, target: &mut [u8])
-    requires { ⌜ p + n * 1 ≤ length (now source) ⌝ }
-    requires { ⌜ p + n * 1 ≤ length (now target) ⌝ }
-    ensures { λ _. ⌜ now (target .exit) ≡ put p (arrayAt n (1 ∷ []) p (now (source .entry))) (now (target .entry)) ⌝ }
-{
-    let e = p + n;
-    octets::copy_into(target, p, &source[p..e]);
-}
-
-// Four scalars of two octets.
-fn turn2s(source: &[u8], p: usize, target: &mut [u8])
-    requires { ⌜ p + 8 ≤ length (now source) ⌝ }
-    requires { ⌜ p + 8 ≤ length (now target) ⌝ }
-    ensures { λ _. ⌜ now (target .exit) ≡ put p (turnedAt (2 ∷ 2 ∷ 2 ∷ 2 ∷ []) p (now (source .entry))) (now (target .entry)) ⌝ }
-{
-    let a = source[p];
-    let b = source[p + 1];
-    let c = source[p + 2];
-    let d = source[p + 3];
-    let e = source[p + 4];
-    let f = source[p + 5];
-    let g = source[p + 6];
-    let h = source[p + 7];
-    target[p] = b;
-    target[p + 1] = a;
-    target[p + 2] = d;
-    target[p + 3] = c;
-    target[p + 4] = f;
-    target[p + 5] = e;
-    target[p + 6] = h;
-    target[p + 7] = g;
-}
-
-// n times four scalars from p on, of two octets.
-fn array2s(n: usize, source: &[u8], p: usize, target: &mut [u8])
-    requires { ⌜ p + n * 8 ≤ length (now source) ⌝ }
-    requires { ⌜ p + n * 8 ≤ length (now target) ⌝ }
-    ensures { λ _. ⌜ now (target .exit) ≡ put p (arrayAt n (2 ∷ 2 ∷ 2 ∷ 2 ∷ []) p (now (source .entry))) (now (target .entry)) ⌝ }
-{
-    let mut q = p;
-    let mut i: usize = 0;
-    while i < n {
-        turn2s(source, q, target);
-        q += 8;
-        i += 1;
-    }
-}
-
-// A few scalars from p on, of two octets.
-fn few2(n: usize, source: &[u8], p: usize, target: &mut [u8])
-    requires { ⌜ p + n * 2 ≤ length (now source) ⌝ }
-    requires { ⌜ p + n * 2 ≤ length (now target) ⌝ }
-    ensures { λ _. ⌜ now (target .exit) ≡ put p (arrayAt n (2 ∷ []) p (now (source .entry))) (now (target .entry)) ⌝ }
-{
-    let mut q = p;
-    let mut i: usize = 0;
-    while i < n {
-        turn2(source, q, target);
-        q += 2;
-        i += 1;
-    }
-}
-
-// n scalars from p on, of two octets: four at a time, then those left.
-fn array2(n: usize, source: &[u8], p: usize, target: &mut [u8])
-    requires { ⌜ p + n * 2 ≤ length (now source) ⌝ }
-    requires { ⌜ p + n * 2 ≤ length (now target) ⌝ }
-    ensures { λ _. ⌜ now (target .exit) ≡ put p (arrayAt n (2 ∷ []) p (now (source .entry))) (now (target .entry)) ⌝ }
-{
-    let fours = n / 4;
-    array2s(fours, source, p, target);
-    let q = p + fours * 8;
-    few2(n - fours * 4, source, q, target);
-}
-
-// n scalars from p on, of four octets.
-fn array4(n: usize, source: &[u8], p: usize, target: &mut [u8])
-    requires { ⌜ p + n * 4 ≤ length (now source) ⌝ }
-    requires { ⌜ p + n * 4 ≤ length (now target) ⌝ }
-    ensures { λ _. ⌜ now (target .exit) ≡ put p (arrayAt n (4 ∷ []) p (now (source .entry))) (now (target .entry)) ⌝ }
-{
-    let mut q = p;
-    let mut i: usize = 0;
-    while i < n {
-        turn4(source, q, target);
-        q += 4;
-        i += 1;
-    }
-}
-
-// n scalars from p on, of eight octets.
-fn array8(n: usize, source: &[u8], p: usize, target: &mut [u8])
-    requires { ⌜ p + n * 8 ≤ length (now source) ⌝ }
-    requires { ⌜ p + n * 8 ≤ length (now target) ⌝ }
-    ensures { λ _. ⌜ now (target .exit) ≡ put p (arrayAt n (8 ∷ []) p (now (source .entry))) (now (target .entry)) ⌝ }
-{
-    let mut q = p;
-    let mut i: usize = 0;
-    while i < n {
-        turn8(source, q, target);
-        q += 8;
-        i += 1;
-    }
-}
-
-// n scalars from p on, TIMEDATE48: four octets, then two.
-fn array48(n: usize, source: &[u8], p: usize, target: &mut [u8])
-    requires { ⌜ p + n * 6 ≤ length (now source) ⌝ }
-    requires { ⌜ p + n * 6 ≤ length (now target) ⌝ }
-    ensures { λ _. ⌜ now (target .exit) ≡ put p (arrayAt n (4 ∷ 2 ∷ []) p (now (source .entry))) (now (target .entry)) ⌝ }
-{
-    let mut q = p;
-    let mut i: usize = 0;
-    while i < n {
-        turn4(source, q, target);
-        turn2(source, q + 4, target);
-        q += 6;
-        i += 1;
-    }
-}
-
-// n scalars of a shape from p on, each part turned round by itself, written to the target at p.
-fn turn(shape: usize, n: usize, source: &[u8], p: usize, target: &mut [u8])
-    requires { ⌜ p + n * size (shapeParts shape) ≤ length (now source) ⌝ }
-    requires { ⌜ p + n * size (shapeParts shape) ≤ length (now target) ⌝ }
-    ensures { λ _. ⌜ now (target .exit) ≡ put p (arrayAt n (shapeParts shape) p (now (source .entry))) (now (target .entry)) ⌝ }
-{
-    match shape {
-        1 => array1(n, source, p, target),
-        2 => array2(n, source, p, target),
-        3 => array4(n, source, p, target),
-        4 => array8(n, source, p, target),
-        5 => array48(n, source, p, target),
-        6 => array4(n * 2, source, p, target),
-        _ => {}
-    }
-}
-
 // n scalars of a type from p on: judged, and written where that is asked.
-fn scalars(t: u32, n: u32, source: &[u8], p: usize, target: &mut [u8], write: bool) -> Step
+fn take_scalars(t: u32, n: u32, source: &[u8], p: usize, target: &mut [u8], write: bool) -> Step
     requires { ⌜ p ≤ length (now source) ⌝ }
     requires { ⌜ (write ≡ true → length (now source) ≤ length (now target)) ⌝ }
     ensures { λ r. ⌜ Stepped (times n (turned (partsOf t)) (drop p (now (source .entry)))) (length (now (source .entry))) p write (now (target .entry)) r (now (target .exit)) ⌝ }
 {
-    let shape = shape_of(t);
+    let shape = scalars::shape_of(t);
     let items = n as usize;
-    let long = items * size_of(shape);
+    let long = items * scalars::size_of(shape);
     if source.len() - p < long {
         return Step::Refused(DATA_LENGTH);
     }
     if write {
-        turn(shape, items, source, p, target);
+        scalars::turn(shape, items, source, p, target);
     }
     Step::At(p + long)
 }
@@ -439,7 +225,7 @@ fn walk(
                     return Step::Refused(DESCRIPTION);
                 };
                 let s = if t < 17 {
-                    scalars(t, m, source, p, target, write)
+                    take_scalars(t, m, source, p, target, write)
                 } else {
                     walk(form, run, levels - 1, t, m, source, p, target, write)
                 };

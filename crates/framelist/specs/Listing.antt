@@ -2,7 +2,7 @@
 use mathlib.Core.Path.{_≡_}
 use mathlib.Core.List.{List, [], _∷_, _++_}
 use Prim.Native.Nat.{ℕ, _+_, _%_, _^_}
-use Rattle.line.specs.Answer.{ascii, decimalOf, decimal, word, refused as refusedWords}
+use Rattle.answer.specs.Answer.{ascii, decimalOf, decimal, word, refused as refusedWords}
 use Rattle.topography.specs.declared.TopoCounts.{TopoCounts}
 use Rattle.arrival.specs.declared.Arrival.{Arrival}
 use Rattle.capture.specs.declared.frame.Frame.{Frame}

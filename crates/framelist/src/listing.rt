@@ -3,7 +3,6 @@ use address::SenderRange;
 use arrival::Arrival;
 use capture::frame::Frame;
 use capture::frame::FrameLine;
-use line::answer;
 use statistics::Statistics;
 use subscription::Filter;
 use subscription::Subscription;
@@ -12,10 +11,10 @@ use topography::TopoCounts;
 ghost use mathlib.Core.Path.{_≡_};
 ghost use Prim.Native.Nat.{_≤_};
 ghost use lib.ListN.{length, take};
-ghost use Rattle.line.specs.Answer.{Puts};
+ghost use Rattle.answer.specs.Answer.{Puts};
 ghost use Rattle.statistics.specs.Statistics.{noStatistics};
 ghost use Rattle.subscriptions.specs.Calls.{meaning};
-ghost use Rattle.capture.specs.Frame.{frameOf, datagramOf};
+ghost use Rattle.capture.specs.Frame.{frameOf, datagramOf, bufferAfter};
 ghost use Rattle.framelist.specs.Listing.{slotZero, outcomeOf, counted, Hands, Lists, outcomeWords, outcomeLine, totalLine};
 
 // The frames totalled.
@@ -140,6 +139,7 @@ fn leave(l: Listing) -> Listed
 // A line after line 1.
 pub fn list(l: Listing, s: &[u8], store: &mut [u8], buffer: &mut [u8; 1472]) -> Listed
     ensures { λ r. ⌜ Lists l (frameOf (now (s .entry))) (datagramOf (now (s .entry))) (now (store .entry)) r (now (store .exit)) ⌝ }
+    ensures { λ _. ⌜ now (buffer .exit) ≡ bufferAfter (now (s .entry)) (now (buffer .entry)) ⌝ }
 {
     let x = capture::frame::read_frame(s, buffer);
     match x {

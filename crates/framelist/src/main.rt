@@ -3,7 +3,6 @@ mod listing;
 
 use capture::frame::HeadLine;
 use libc::STDIN_FILENO;
-use line::answer;
 use line::output;
 use listing::Listing;
 use listing::Outcome;

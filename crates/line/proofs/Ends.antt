@@ -1,10 +1,10 @@
 -- Where a line ends: LF looked for octet by octet and in parts; a line gathered.
 -- Assumes nothing.
-use mathlib.Core.Path.{_≡_, refl, sym, ap, ap₂, _∙_}
+use mathlib.Core.Path.{_≡_, sym, ap, _∙_}
 use mathlib.Core.Bool.{Bool, true, false, cond, _||_, or-assoc, or-true, or-false, true≢false}
 use mathlib.Core.List.{List, [], _∷_}
 use Prim.Native.Nat.{ℕ, zero, suc, _+_, _<_, _≤_, max}
-use native.Mathlib.Nat.{add-zero, zero-add}
+use native.Mathlib.Nat.{zero-add}
 use native.Mathlib.Numerals.{add-one}
 use native.Mathlib.Omega.{arith}
 use borrow.Author.Tests.{lt-ltb, le-leb, lt-leb, eq-eqb, ne-eqb}
@@ -12,7 +12,8 @@ use lib.Dec.{eqb, ltb}
 use lib.ListN.{length, getD, take, drop, drop-of-length-le}
 use lib.Seq.{drop-cons, drop-drop}
 use Rattle.octets.specs.Octets.{put}
-use Rattle.line.specs.Answer.{Room, room, hasEnd, untilEnd, firstEnd, gathered}
+use Rattle.answer.specs.Answer.{room}
+use Rattle.line.specs.Lines.{hasEnd, untilEnd, firstEnd, gathered}
 
 -- the greater of two marks is set where one is
 either : (f : ℕ) (b : Bool) → ltb 0 (max f (cond b 1 0)) ≡ (ltb 0 f || b)

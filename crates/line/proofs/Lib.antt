@@ -2,5 +2,3 @@ mod Lines
 mod Ends
 pub mod Said
 pub mod Counted
-pub mod Rooms
-pub mod Decimals

@@ -7,15 +7,16 @@ use Prim.Native.Nat.{ℕ, _+_, _<_, _≤_}
 use native.Mathlib.Numerals.{add-one}
 use native.Mathlib.Omega.{arith}
 use borrow.Author.Tests.{ltb-true, lt-ltb, le-ltb, le-leb, lt-leb, eq-eqb, ne-eqb}
-use lib.Dec.{eqb, ltb, leb}
+use lib.Dec.{eqb, ltb}
 use lib.ListN.{length, getD, take, drop, drop-of-length-le, length-append}
-use lib.Seq.{drop-cons, length-take-le, take-at}
+use lib.Seq.{drop-cons, take-at}
 use Rattle.io.specs.Counts.{Counts}
 use Rattle.octets.specs.Octets.{part, put}
 use Rattle.capture.specs.Hex.{isHex}
 use Rattle.capture.proofs.Digits.{and-left, and-right}
 use Rattle.line.specs.declared.Field.{Field}
-use Rattle.line.specs.Line.{verbIs, hasDigits, badAt, readTo, fieldOf, octetsField, octetsIn, ends, left, lastField}
+use Rattle.line.specs.declared.Count.{Count}
+use Rattle.line.specs.Line.{verbIs, hasDigits, badAt, readTo, fieldOf, octetsField, octetsIn, ends, left, lastField, targetAfter}
 
 -- digits that were found stand within the line
 pub digits-within : (s : List ℕ) (at n : ℕ) → hasDigits s at n ≡ true → at + n < length s
@@ -72,37 +73,48 @@ both-end s verb i h k = ap₂ verbIs (drop-of-length-le s h) (drop-of-length-le 
 pub put-whole : (x t : List ℕ) → length x ≡ length t → put 0 x t ≡ x
 put-whole x t e = ap (λ (d : List ℕ). x ++ d) (drop-of-length-le t {i = 0 + length x} (omega arith)) ∙ append-nil x
 
-not-bad : (a b : Bool) → (not a && b) ≡ true → a ≡ false
-not-bad true b e = absurd (true≢false (sym e))
-not-bad false b e = refl
+-- a field that the line ends behind was found, and stands behind one that is not bad
+module _ (v : ℕ) (s : List ℕ) (f : Field) (n : ℕ) where
+  pub bad-before : f .«is_bad» ≡ true → false ≡ ends s (fieldOf v s f n)
+  bad-before e =
+      sym (ap (λ (a : Bool). ends s (cond a f (cond (hasDigits s (f .next) n) (readTo v (f .next + 1 + n)) (badAt (f .next))))) e ∙ ap (λ (a : Bool). not a && eqb (f .next) (length s)) e)
 
--- the rest of a line, of which n octets were read into the first of t
-module _ (s t o : List ℕ) (b f : Field) (n : ℕ) (e : n ≡ left s (b .next)) where
-  judged : f ≡ octetsField s b (length (take n t)) → n ≤ length t → (r : Bool) → ends s f ≡ r → (leb (left s (b .next)) (length t) && ends s (octetsField s b (left s (b .next)))) ≡ r
-  judged g h r d =
-      let l : length (take n t) ≡ left s (b .next) = length-take-le n t h ∙ e in
-      ap₂ _&&_ (le-leb (left s (b .next)) (length t) (omega arith)) (sym (ap (λ (m : ℕ). ends s (octetsField s b m)) l) ∙ sym (ap (ends s) g) ∙ d)
+  pub last-digits : ends s (fieldOf v s f n) ≡ true → hasDigits s (f .next) n ≡ true
+  last-digits e = go (f .«is_bad») (hasDigits s (f .next) n) refl refl
+    where
+      go : (a b : Bool) → f .«is_bad» ≡ a → hasDigits s (f .next) n ≡ b → hasDigits s (f .next) n ≡ true
+      go true b p q = absurd (true≢false (sym e ∙ sym (bad-before p)))
+      go false true p q = q
+      go false false p q = absurd (true≢false (sym e ∙ ap (ends s) (field-bad v s f n p q)))
 
-  pub last-found : f ≡ octetsField s b (length (take n t)) → n ≤ length t → ends s f ≡ true → record { count = n; «is_bad» = false } ≡ lastField s b (length t)
-  last-found g h d =
-      ap (λ (m : ℕ). record { count = m; «is_bad» = false }) e
-      ∙ sym (ap (λ (r : Bool). cond r (record { count = left s (b .next); «is_bad» = false }) (record { count = 0; «is_bad» = true })) (judged g h true d))
+-- the rest of a line can write n octets
+module _ (s t : List ℕ) (b : Field) (n : ℕ) (e : n ≡ left s (b .next)) where
+  abbrev counted : Bool → Count
+  counted r = cond r (record { count = left s (b .next); «is_bad» = false }) (record { count = 0; «is_bad» = true })
 
-  pub last-bad : f ≡ octetsField s b (length (take n t)) → n ≤ length t → ends s f ≡ false → record { count = 0; «is_bad» = true } ≡ lastField s b (length t)
-  last-bad g h d = sym (ap (λ (r : Bool). cond r (record { count = left s (b .next); «is_bad» = false }) (record { count = 0; «is_bad» = true })) (judged g h false d))
+  judged : n ≤ length t → (r : Bool) → ends s (octetsField s b n) ≡ r → lastField s b (length t) ≡ counted r
+  judged h r d =
+      ap counted (ap₂ _&&_ (le-leb (left s (b .next)) (length t) (omega arith)) (ap (λ (m : ℕ). ends s (octetsField s b m)) (sym e) ∙ d))
+
+  pub last-found : n ≤ length t → ends s (octetsField s b n) ≡ true → record { count = n; «is_bad» = false } ≡ lastField s b (length t)
+  last-found h d = ap (λ (m : ℕ). record { count = m; «is_bad» = false }) e ∙ sym (judged h true d)
+
+  pub last-bad : n ≤ length t → ends s (octetsField s b n) ≡ false → record { count = 0; «is_bad» = true } ≡ lastField s b (length t)
+  last-bad h d = sym (judged h false d)
 
   pub last-long : length t < n → record { count = 0; «is_bad» = true } ≡ lastField s b (length t)
   last-long h =
-      sym
-      (ap (λ (r : Bool). cond (r && ends s (octetsField s b (left s (b .next)))) (record { count = left s (b .next); «is_bad» = false }) (record { count = 0; «is_bad» = true }))
-      (lt-leb (left s (b .next)) (length t) (omega arith)))
+      sym (ap (λ (r : Bool). counted (r && ends s (octetsField s b (left s (b .next))))) (lt-leb (left s (b .next)) (length t) (omega arith)))
 
-  pub last-octets : o ≡ cond (f .«is_bad») (take n t) (octetsIn s b (length (take n t))) → n ≤ length t → ends s f ≡ true → o ≡ octetsIn s b n
-  last-octets w h d =
-      w
-      ∙ ap (λ (r : Bool). cond r (take n t) (octetsIn s b (length (take n t)))) (not-bad (f .«is_bad») (eqb (f .next) (length s)) d)
-      ∙ ap (octetsIn s b) (length-take-le n t h)
+-- the target as the count tells it
+pub target-is : (s : List ℕ) (b : Field) (t : List ℕ) {n : Count} {o : List ℕ} → n ≡ lastField s b (length t) → o ≡ cond (n .«is_bad») t (put 0 (octetsIn s b (n .count)) t) → o ≡ targetAfter s b t
+target-is s b t e w = w ∙ ap (λ (n : Count). cond (n .«is_bad») t (put 0 (octetsIn s b (n .count)) t)) e
 
 -- what was written at the front is counted and read there
-pub front-counts : (o t : List ℕ) (n : ℕ) → length o ≡ n → Counts n (o ++ t)
-front-counts o t n e = (simp length-append (omega arith), sym e ∙ sym (ap length (take-at o t n e)))
+pub front-counts : (x t : List ℕ) (n : ℕ) {o : List ℕ} → length x ≡ n → o ≡ put 0 x t → Counts n o
+front-counts x t n e w =
+    let f : Counts n (x ++ drop (0 + length x) t) = (simp length-append (omega arith), sym e ∙ sym (ap length (take-at x (drop (0 + length x) t) n e))) in
+    rw w f
+
+pub front-read : (x t : List ℕ) (n : ℕ) {o : List ℕ} → length x ≡ n → o ≡ put 0 x t → take n o ≡ x
+front-read x t n e w = ap (take n) w ∙ take-at x (drop (0 + length x) t) n e

@@ -1,16 +1,15 @@
--- What a line says with its last field or at its end, as the functions find it; its answer; the target of a room.
+-- What a line says with its last field or at its end, as the functions find it; the target of a room.
 -- Assumes nothing.
 use mathlib.Core.Path.{_≡_, refl, sym, ap, _∙_}
 use mathlib.Core.Bool.{Bool, true, false, cond, not, _&&_, true≢false}
 use mathlib.Core.List.{List, _∷_}
-use mathlib.Core.Option.{Option, none, some}
+use mathlib.Core.Option.{none, some}
 use Prim.Native.Nat.{ℕ, zero, suc, _+_, _*_, _≤_}
 use native.Mathlib.Omega.{arith}
 use lib.Dec.{eqb, leb}
 use lib.ListN.{length, take, replicate}
 use Rattle.line.specs.declared.Field.{Field}
 use Rattle.line.specs.declared.Count.{Count}
-use Rattle.line.specs.Answer.{room, answeredBy, Puts, Answers}
 use Rattle.line.specs.Line.{hasDigits, badAt, readTo, fieldOf, octetsField, octetsIn, left, lastField, withOctets}
 
 -- the last field as it was read into a buffer of 66,000 octets
@@ -25,18 +24,6 @@ module _ {A : Type 0} (s : List ℕ) (f : Field) (t : List ℕ) (n : Count) (sai
 
   pub said-octets : (o : List ℕ) → 66000 ≡ length t → n ≡ lastField s f (length t) → n .«is_bad» ≡ false → (n .«is_bad» ≡ false → take (n .count) o ≡ octetsIn s f (n .count)) → withOctets s f said ≡ some (said (take (n .count) o))
   said-octets o l e d w = told l e false d ∙ ap (λ (x : List ℕ). some (said x)) (sym (w d))
-
--- a line's answer in other words; nothing; pieces
-module _ {x : Option (List (List ℕ))} where
-  pub answered-as : {y : Option (List (List ℕ))} {at r : ℕ} {o o′ : List ℕ} → x ≡ y → Answers y at o r o′ → Answers x at o r o′
-  answered-as {y} {at} {r} {o} e a =
-      record { answers = a .answers ∙ ap (λ (z : Option (List (List ℕ))). answeredBy z (room at o)) (sym e) }
-
-  pub not-answered : x ≡ none → (at : ℕ) (o : List ℕ) → Answers x at o 0 o
-  not-answered e at o = answered-as e (record { answers = refl })
-
-  pub answered-by : {ss : List (List ℕ)} {at r : ℕ} {o o′ : List ℕ} → x ≡ some ss → Puts ss at o r o′ → Answers x at o r o′
-  answered-by e p = answered-as e (record { answers = p .puts })
 
 -- a field that was read stands behind one that was
 pub before-read : (v : ℕ) (s : List ℕ) (f : Field) (n : ℕ) → (fieldOf v s f n) .«is_bad» ≡ false → f .«is_bad» ≡ false

@@ -5,7 +5,7 @@ use mathlib.Core.Bool.{Bool, true, false, cond, not, _&&_}
 use mathlib.Core.Option.{Option, none, some}
 use lib.Dec.{eqb, ltb, leb}
 use lib.ListN.{length, getD}
-use Rattle.octets.specs.Octets.{part}
+use Rattle.octets.specs.Octets.{part, put}
 use Rattle.capture.specs.Hex.{isHex, number, octetsOf}
 use Rattle.line.specs.declared.Field.{Field}
 use Rattle.line.specs.declared.Count.{Count}
@@ -59,6 +59,12 @@ lastField s f room =
     cond (leb (left s (f .next)) room && ends s (octetsField s f (left s (f .next))))
     (record { count = left s (f .next); «is_bad» = false })
     (record { count = 0; «is_bad» = true })
+
+-- a target after the last field: its octets stand at the front; a line of another form leaves the target as it was
+abbrev pub targetAfter : List ℕ → Field → List ℕ → List ℕ
+targetAfter s f target =
+    let last = lastField s f (length target) in
+    cond (last .«is_bad») target (put 0 (octetsIn s f (last .count)) target)
 
 -- what a line says that ends behind a field; nothing where it is of another form
 abbrev pub withEnd : {A : Type 0} → List ℕ → Field → A → Option A

@@ -1,15 +1,15 @@
 // Lines of octets: gathered from blocks of input, and taken apart into a verb and fields of hexadecimal digits with a single space before each.
-pub mod answer;
 pub mod output;
 
 ghost use mathlib.Core.Path.{_≡_};
 ghost use mathlib.Core.Bool.{false, cond};
 ghost use lib.Dec.{eqb};
-ghost use Prim.Native.Nat.{_+_, _%_, _^_, _≤_, min, max};
+ghost use Prim.Native.Nat.{_+_, _*_, _%_, _^_, _≤_, min, max};
 ghost use lib.ListN.{length, take, replicate};
 ghost use Rattle.io.specs.Counts.{Counts};
-ghost use Rattle.line.specs.Answer.{room, hasEnd, firstEnd, gathered, endedOf};
-ghost use Rattle.line.specs.Line.{verbIs, hasDigits, badAt, readTo, numberField, octetsField, octetsIn, ends, left, lastField};
+ghost use Rattle.answer.specs.Answer.{room};
+ghost use Rattle.line.specs.Lines.{hasEnd, firstEnd, gathered, endedOf};
+ghost use Rattle.line.specs.Line.{verbIs, hasDigits, badAt, readTo, numberField, octetsField, octetsIn, ends, left, lastField, targetAfter};
 
 // A field that was read, and the place behind it. Bad where the line has another form there or before.
 pub struct Field {
@@ -146,16 +146,36 @@ fn rest(s: &[u8], at: usize) -> usize
     0
 }
 
-// The last field of a line: an even number of digits, and no more octets than the target has.
+// The field of n octets behind another is the line's last.
+fn is_last(s: &[u8], before: Field, n: usize) -> bool
+    requires { ⌜ 2 * n ≤ length (now s) ⌝ }
+    ensures { λ r. ⌜ r ≡ ends (now (s .entry)) (octetsField (now (s .entry)) before n) ⌝ }
+{
+    if before.is_bad {
+        return false;
+    }
+    let at = before.next;
+    let digits = 2 * n;
+    if has_digits(s, at, digits) {
+        return at + 1 + digits == s.len();
+    }
+    false
+}
+
+// The last field of a line: an even number of digits, and no more octets than the target has. A line of another form leaves the target as it was.
 pub fn octets(s: &[u8], before: Field, target: &mut [u8]) -> Count
     ensures { λ r. ⌜ Counts (r .count) (now (target .exit)) ⌝ }
     ensures { λ r. ⌜ r ≡ lastField (now (s .entry)) before (length (now (target .entry))) ⌝ }
     ensures { λ r. ⌜ (r .«is_bad» ≡ false → take (r .count) (now (target .exit)) ≡ octetsIn (now (s .entry)) before (r .count)) ⌝ }
+    ensures { λ r. ⌜ now (target .exit) ≡ targetAfter (now (s .entry)) before (now (target .entry)) ⌝ }
 {
-    let n = rest(s, before.next);
+    let at = before.next;
+    let n = rest(s, at);
     if n <= target.len() {
-        let f = octets_field(s, before, &mut target[..n]);
-        if is_end(s, f) {
+        if is_last(s, before, n) {
+            let a = at + 1;
+            let e = a + 2 * n;
+            capture::decode(&s[a..e], target);
             return Count {
                 count: n,
                 is_bad: false,

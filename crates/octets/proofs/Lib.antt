@@ -1,4 +1,5 @@
 pub mod Parts
 pub mod Numbers
+pub mod Halves
 pub mod Signed
 pub mod Puts

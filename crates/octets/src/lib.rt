@@ -42,14 +42,43 @@ pub fn little4(s: &[u8], k: usize) -> u32
     join4(s[k + 3], s[k + 2], s[k + 1], s[k])
 }
 
+// The number in the eight octets of s at k, least significant first.
+pub fn little8(s: &[u8], k: usize) -> u64
+    requires { ⌜ k + 8 ≤ length (now s) ⌝ }
+    ensures { λ r. ⌜ r ≡ little (part 8 k (now (s .entry))) ⌝ }
+{
+    let low = little4(s, k);
+    let high = little4(s, k + 4);
+    (low as u64) + (high as u64) * 4294967296
+}
+
+// Two octets written at k.
+fn put_two(target: &mut [u8], k: usize, a: u8, b: u8)
+    requires { ⌜ k + 2 ≤ length (now target) ⌝ }
+    ensures { λ _. ⌜ now (target .exit) ≡ put k (a ∷ b ∷ []) (now (target .entry)) ⌝ }
+{
+    target[k] = a;
+    target[k + 1] = b;
+}
+
+// Four octets written at k.
+pub fn put_four(target: &mut [u8], k: usize, a: u8, b: u8, c: u8, d: u8)
+    requires { ⌜ k + 4 ≤ length (now target) ⌝ }
+    ensures { λ _. ⌜ now (target .exit) ≡ put k (a ∷ b ∷ c ∷ d ∷ []) (now (target .entry)) ⌝ }
+{
+    target[k] = a;
+    target[k + 1] = b;
+    target[k + 2] = c;
+    target[k + 3] = d;
+}
+
 // x written in two octets at k, big endian.
 pub fn put_big2(target: &mut [u8], k: usize, x: u16)
     requires { ⌜ k + 2 ≤ length (now target) ⌝ }
     ensures { λ _. ⌜ now (target .exit) ≡ put k (bigOf 2 x) (now (target .entry)) ⌝ }
 {
     let x1 = x / 256;
-    target[k] = (x1 % 256) as u8;
-    target[k + 1] = (x % 256) as u8;
+    put_two(target, k, (x1 % 256) as u8, (x % 256) as u8);
 }
 
 // x written in four octets at k, big endian.
@@ -60,10 +89,14 @@ pub fn put_big4(target: &mut [u8], k: usize, x: u32)
     let x1 = x / 256;
     let x2 = x1 / 256;
     let x3 = x2 / 256;
-    target[k] = (x3 % 256) as u8;
-    target[k + 1] = (x2 % 256) as u8;
-    target[k + 2] = (x1 % 256) as u8;
-    target[k + 3] = (x % 256) as u8;
+    put_four(
+        target,
+        k,
+        (x3 % 256) as u8,
+        (x2 % 256) as u8,
+        (x1 % 256) as u8,
+        (x % 256) as u8,
+    );
 }
 
 // x written in four octets at k, least significant first.
@@ -74,10 +107,31 @@ pub fn put_little4(target: &mut [u8], k: usize, x: u32)
     let x1 = x / 256;
     let x2 = x1 / 256;
     let x3 = x2 / 256;
-    target[k] = (x % 256) as u8;
-    target[k + 1] = (x1 % 256) as u8;
-    target[k + 2] = (x2 % 256) as u8;
-    target[k + 3] = (x3 % 256) as u8;
+    put_four(
+        target,
+        k,
+        (x % 256) as u8,
+        (x1 % 256) as u8,
+        (x2 % 256) as u8,
+        (x3 % 256) as u8,
+    );
+}
+
+// x written in eight octets at k, least significant first.
+pub fn put_little8(target: &mut [u8], k: usize, x: u64)
+    requires { ⌜ k + 8 ≤ length (now target) ⌝ }
+    ensures { λ _. ⌜ now (target .exit) ≡ put k (littleOf 8 x) (now (target .entry)) ⌝ }
+{
+    put_little4(target, k, (x % 4294967296) as u32);
+    put_little4(target, k + 4, (x / 4294967296) as u32);
+}
+
+// The four octets of s at k.
+pub fn four(s: &[u8], k: usize) -> [u8; 4]
+    requires { ⌜ k + 4 ≤ length (now s) ⌝ }
+    ensures { λ r. ⌜ r ≡ part 4 k (now (s .entry)) ⌝ }
+{
+    [s[k], s[k + 1], s[k + 2], s[k + 3]]
 }
 
 // target becomes source, which is as long.

@@ -5,12 +5,11 @@ use session::Session;
 use session::SessionState;
 use timing::Timing;
 ghost use mathlib.Core.Path.{_≡_};
-ghost use mathlib.Core.List.{[], _∷_};
 ghost use mathlib.Core.Bool.{cond, not};
 ghost use lib.Dec.{eqb};
-ghost use Prim.Native.Nat.{_+_, _*_, _≤_};
+ghost use Prim.Native.Nat.{_+_, _≤_};
 ghost use lib.ListN.{length};
-ghost use Rattle.octets.specs.Octets.{little, littleOf, part, put};
+ghost use Rattle.octets.specs.Octets.{part};
 ghost use Rattle.packed.specs.Packed.{listenerOf, stateOf, sessionOf, listenersOf, listenerOctets, stateNumber, timingOf, sessionOctets};
 
 // The 32 octets of s at k.
@@ -22,58 +21,6 @@ pub fn thirty_two(s: &[u8], k: usize) -> [u8; 32]
     let e = k + 32;
     octets::copy_into(&mut a, 0, &s[k..e]);
     a
-}
-
-fn join8(a: u8, b: u8, c: u8, d: u8, e: u8, f: u8, g: u8, h: u8) -> u64
-    ensures { λ r. ⌜ r ≡ little (a ∷ b ∷ c ∷ d ∷ e ∷ f ∷ g ∷ h ∷ []) ⌝ }
-{
-    (a as u64)
-        + (b as u64) * 256
-        + (c as u64) * 65536
-        + (d as u64) * 16777216
-        + (e as u64) * 4294967296
-        + (f as u64) * 1099511627776
-        + (g as u64) * 281474976710656
-        + (h as u64) * 72057594037927936
-}
-
-// The number in the eight octets of s at k, least significant first.
-fn little8(s: &[u8], k: usize) -> u64
-    requires { ⌜ k + 8 ≤ length (now s) ⌝ }
-    ensures { λ r. ⌜ r ≡ little (part 8 k (now (s .entry))) ⌝ }
-{
-    join8(
-        s[k],
-        s[k + 1],
-        s[k + 2],
-        s[k + 3],
-        s[k + 4],
-        s[k + 5],
-        s[k + 6],
-        s[k + 7],
-    )
-}
-
-// x written in eight octets at k, least significant first.
-fn put_little8(target: &mut [u8], k: usize, x: u64)
-    requires { ⌜ k + 8 ≤ length (now target) ⌝ }
-    ensures { λ _. ⌜ now (target .exit) ≡ put k (littleOf 8 x) (now (target .entry)) ⌝ }
-{
-    let x1 = x / 256;
-    let x2 = x1 / 256;
-    let x3 = x2 / 256;
-    let x4 = x3 / 256;
-    let x5 = x4 / 256;
-    let x6 = x5 / 256;
-    let x7 = x6 / 256;
-    target[k] = (x % 256) as u8;
-    target[k + 1] = (x1 % 256) as u8;
-    target[k + 2] = (x2 % 256) as u8;
-    target[k + 3] = (x3 % 256) as u8;
-    target[k + 4] = (x4 % 256) as u8;
-    target[k + 5] = (x5 % 256) as u8;
-    target[k + 6] = (x6 % 256) as u8;
-    target[k + 7] = (x7 % 256) as u8;
 }
 
 fn is_used(n: u8) -> bool
@@ -128,7 +75,7 @@ pub fn unpack_session(s: &[u8]) -> Session
     ensures { λ r. ⌜ r ≡ sessionOf (now (s .entry)) ⌝ }
 {
     let timeout = octets::little4(s, 4);
-    let start = little8(s, 8);
+    let start = octets::little8(s, 8);
     let id = octets::sixteen(s, 16);
     let t = Timing {
         start: start,
@@ -223,6 +170,6 @@ pub fn pack_session(x: Session, s: &mut [u8])
     let t = timing_of(state);
     octets::put_little4(s, 0, n as u32);
     octets::put_little4(s, 4, t.timeout);
-    put_little8(s, 8, t.start);
+    octets::put_little8(s, 8, t.start);
     octets::copy_into(s, 16, &id);
 }

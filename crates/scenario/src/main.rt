@@ -1,6 +1,5 @@
 // Calls of the stack read from standard input, one a line, each answered by a line on standard output.
 use libc::STDIN_FILENO;
-use line::answer;
 use line::output;
 use scenario_calls::State;
 ghost use mathlib.Core.Path.{_≡_};

@@ -13,9 +13,9 @@ use Rattle.topography.specs.declared.TopoCounts.{TopoCounts}
 use Rattle.subscription.specs.Record.{freeRecord}
 use Rattle.subscription.specs.Table.{Call}
 use Rattle.line.specs.declared.Field.{Field}
-use Rattle.line.specs.Answer.{Room, room, putPiece, putAll, Puts, Answers, ascii, word, refused}
-use Rattle.line.proofs.Rooms.{piece-kept, answered, unanswered}
-use Rattle.line.proofs.Said.{answered-as}
+use Rattle.answer.specs.Answer.{Room, room, putPiece, putAll, Puts, Answers, ascii, word, refused}
+use Rattle.answer.proofs.Rooms.{piece-kept, answered, unanswered}
+use Rattle.answer.proofs.Rooms.{answered-as}
 use Rattle.line.specs.Line.{readTo, numberField, verbIs, ends}
 use Rattle.scenario_wire.specs.Wire.{wireAnswer}
 use Rattle.scenario_wire.specs.declared.publications.Held.{Held}

@@ -8,8 +8,8 @@ use native.Mathlib.Omega.{arith}
 use lib.ListN.{length, getD, take}
 use lib.Seq.{drop-cons}
 use Rattle.octets.specs.Octets.{part}
-use Rattle.line.specs.Answer.{Room, room, putAll, Puts, decimal}
-use Rattle.line.proofs.Rooms.{putAll-append}
+use Rattle.answer.specs.Answer.{Room, room, putAll, Puts, decimal}
+use Rattle.answer.proofs.Rooms.{putAll-append}
 use Rattle.scenario_calls.specs.Counters.{decimals}
 
 -- what is left to put, from a room

@@ -14,7 +14,7 @@ use Rattle.session.specs.Session.{freeSession}
 use Rattle.sessions.specs.declared.Tables.{Tables}
 use Rattle.line.specs.declared.Field.{Field}
 use Rattle.line.specs.Line.{readTo, numberField, verbIs, ends, withEnd}
-use Rattle.line.specs.Answer.{ascii, word, Puts, Answers}
+use Rattle.answer.specs.Answer.{ascii, word, Puts, Answers}
 use Rattle.scenario_wire.specs.Wire.{wireAnswer}
 use Rattle.scenario_wire.specs.declared.publications.Held.{Held}
 use Rattle.scenario_wire.specs.declared.publications.Held.the-variants.{Nothing}

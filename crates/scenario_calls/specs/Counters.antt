@@ -2,7 +2,7 @@
 use Prim.Native.Nat.{ℕ}
 use mathlib.Core.List.{List, [], _∷_, _++_}
 use Rattle.octets.specs.Octets.{part}
-use Rattle.line.specs.Answer.{ascii, spaced, decimal}
+use Rattle.answer.specs.Answer.{ascii, spaced, decimal}
 use Rattle.statistics.specs.declared.Counters.{Counters}
 use Rattle.statistics.specs.declared.Statistics.{Statistics}
 

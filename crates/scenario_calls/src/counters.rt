@@ -1,10 +1,9 @@
 // The statistics in words.
-use line::answer;
 use statistics::Counters;
 use statistics::Statistics;
 ghost use Prim.Native.Nat.{_+_, _-_, _≤_};
 ghost use Rattle.octets.specs.Octets.{part};
-ghost use Rattle.line.specs.Answer.{Puts, decimal};
+ghost use Rattle.answer.specs.Answer.{Puts, decimal};
 ghost use Rattle.scenario_calls.specs.Counters.{decimals, countersWords, statisticsWords};
 
 // A counter.

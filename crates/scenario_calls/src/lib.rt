@@ -2,7 +2,6 @@
 
 mod counters;
 
-use line::answer;
 use scenario_pd::Slots;
 use scenario_wire::publications;
 use scenario_wire::publications::Held;

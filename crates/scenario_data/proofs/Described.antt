@@ -22,8 +22,9 @@ use Rattle.dataset.specs.declared.Converted.the-variants.{Octets, Refused}
 use Rattle.dataset.specs.Walk.{wholeOf, refusalOf, doneOf, Converts}
 use Rattle.line.specs.declared.Field.{Field}
 use Rattle.line.specs.Line.{readTo, numberField, verbIs, withOctets}
-use Rattle.line.specs.Answer.{ascii, word, Answers}
-use Rattle.line.proofs.Said.{fresh, answered-as, not-answered}
+use Rattle.answer.specs.Answer.{ascii, word, Answers}
+use Rattle.line.proofs.Said.{fresh}
+use Rattle.answer.proofs.Rooms.{answered-as, not-answered}
 use Rattle.scenario_data.specs.declared.Outcome.{Outcome}
 use Rattle.scenario_data.specs.Data.{Said, numbersOf, isRun, runSaid, orNone, typesSaid, convertedWords, doneWords, convertWords, targetOf, convertAnswer, keeping, dataSaid, wordsOf, numbersAfter, runAfter, Describes}
 

@@ -13,7 +13,7 @@ use Rattle.dataset.specs.declared.Converted.{Converted}
 use Rattle.dataset.specs.declared.Converted.the-variants as converted
 use Rattle.dataset.specs.Walk.{wholeOf, refusalOf, doneOf}
 use Rattle.line.specs.Line.{readTo, numberField, verbIs, withOctets}
-use Rattle.line.specs.Answer.{ascii, spaced, word, decimal, octets, refused, Answers}
+use Rattle.answer.specs.Answer.{ascii, spaced, word, decimal, octets, refused, Answers}
 use Rattle.scenario_data.specs.declared.Outcome.{Outcome}
 
 -- the words of an answer, how many numbers the run has from then on, and the memory lent for it

@@ -1,13 +1,12 @@
 // The calls over a description run: `types`, `tohost` and `towire`. The run is the first numbers of lent memory.
 use dataset::Converted;
 use dataset::Form;
-use line::answer;
 ghost use mathlib.Core.Path.{_≡_};
 ghost use Prim.Native.Nat.{_≤_, _*_};
 ghost use lib.ListN.{length, take};
 ghost use Rattle.io.specs.Counts.{Counts};
 ghost use Rattle.octets.specs.Octets.{put};
-ghost use Rattle.line.specs.Answer.{Puts, Answers};
+ghost use Rattle.answer.specs.Answer.{Puts, Answers};
 ghost use Rattle.scenario_data.specs.Data.{numbersOf, isRun, typesSaid, convertedWords, convertWords, convertAnswer, dataSaid, Describes};
 
 // How many numbers the run has after a call, and the place behind the call's answer; 0 where the line is none of these.

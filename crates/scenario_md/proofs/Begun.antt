@@ -9,8 +9,8 @@ use native.Mathlib.Omega.{arith}
 use lib.Dec.{ltb}
 use lib.ListN.{length, getD}
 use Rattle.refusal.specs.Refusal.{noSlot}
-use Rattle.line.specs.Answer.{Room, Puts, Answers, spaced, refused}
-use Rattle.line.proofs.Rooms.{within}
+use Rattle.answer.specs.Answer.{Room, Puts, Answers, spaced, refused}
+use Rattle.answer.proofs.Rooms.{within}
 use Rattle.sessions.specs.declared.Tables.{Tables}
 use Rattle.session.specs.declared.Session.{Session}
 use Rattle.session.specs.declared.SessionState.{SessionState}

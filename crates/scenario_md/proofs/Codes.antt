@@ -7,8 +7,8 @@ use native.Mathlib.Numerals.{add-one}
 use lib.IntN.{ℤ}
 use lib.ListN.{length, getD, drop, drop-of-length-le}
 use lib.Seq.{drop-cons}
-use Rattle.line.specs.Answer.{Room, room, putAll, Puts, word, signed}
-use Rattle.line.proofs.Rooms.{putAll-append}
+use Rattle.answer.specs.Answer.{Room, room, putAll, Puts, word, signed}
+use Rattle.answer.proofs.Rooms.{putAll-append}
 use Rattle.sessions.specs.Table.{codes}
 use Rattle.scenario_md.specs.Words.{allSigned, answerWords}
 

@@ -4,8 +4,8 @@ use mathlib.Core.Path.{_≡_, refl, sym, ap, _∙_, subst}
 use mathlib.Core.List.{List}
 use mathlib.Core.Option.{Option, none, some}
 use Prim.Native.Nat.{ℕ}
-use Rattle.line.specs.Answer.{Puts}
-use Rattle.line.proofs.Rooms.{pieces, answered, unanswered}
+use Rattle.answer.specs.Answer.{Puts}
+use Rattle.answer.proofs.Rooms.{pieces, answered, unanswered}
 use Rattle.topography.specs.declared.TopoCounts.{TopoCounts}
 use Rattle.arrival.specs.declared.Arrival.{Arrival}
 use Rattle.telegram.specs.declared.Family.the-variants.{Md}

@@ -13,8 +13,8 @@ use mir.Val.{SFits, ofZ, toZ}
 use mir.Facts.{toZ-ofZ}
 use Rattle.octets.specs.Octets.{unsigned}
 use Rattle.refusal.specs.Refusal.{noSlot}
-use Rattle.line.specs.Answer.{Puts, word, number, decimal, refused}
-use Rattle.line.proofs.Rooms.{pieces}
+use Rattle.answer.specs.Answer.{Puts, word, number, decimal, refused}
+use Rattle.answer.proofs.Rooms.{pieces}
 use Rattle.session.specs.declared.Session.{Session}
 use Rattle.session.specs.declared.SessionState.the-variants.{Free}
 use Rattle.session.specs.Session.{freeSession}

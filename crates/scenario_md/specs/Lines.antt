@@ -6,7 +6,7 @@ use mathlib.Core.Option.{Option, none}
 use Rattle.arrival.specs.declared.Arrival.{Arrival}
 use Rattle.topography.specs.declared.TopoCounts.{TopoCounts}
 use Rattle.line.specs.declared.Field.{Field}
-use Rattle.line.specs.Answer.{ascii}
+use Rattle.answer.specs.Answer.{ascii}
 use Rattle.line.specs.Line.{verbIs, readTo, numberField, octetsField, octetsIn, withEnd, withOctets}
 use Rattle.sessions.specs.Table.{Call, listen, unlisten, calling, telegram, reply, confirm, timeCheck}
 

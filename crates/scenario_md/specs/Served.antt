@@ -3,7 +3,7 @@ use Prim.Native.Nat.{ℕ}
 use mathlib.Core.Path.{_≡_}
 use mathlib.Core.List.{List}
 use mathlib.Core.Option.{Option, none, some}
-use Rattle.line.specs.Answer.{Puts, Answers}
+use Rattle.answer.specs.Answer.{Puts, Answers}
 use Rattle.statistics.specs.declared.Statistics.{Statistics}
 use Rattle.sessions.specs.declared.Tables.{Tables}
 use Rattle.sessions.specs.declared.Told.{Told}

@@ -8,7 +8,7 @@ use lib.ListN.{getD}
 use Rattle.octets.specs.Octets.{unsigned}
 use Rattle.refusal.specs.Refusal.{noSlot}
 use Rattle.timing.specs.declared.Timing.{Timing}
-use Rattle.line.specs.Answer.{ascii, spaced, word, wordOf, decimal, number, octets, signed, refused}
+use Rattle.answer.specs.Answer.{ascii, spaced, word, wordOf, decimal, number, octets, signed, refused}
 use Rattle.session.specs.declared.Session.{Session}
 use Rattle.session.specs.declared.SessionState.{SessionState}
 use Rattle.session.specs.declared.SessionState.the-variants.{Free, WaitingForReply, OwingConfirm, WithUser, WaitingForConfirm}

@@ -3,7 +3,6 @@ pub mod show;
 
 use address::SenderRange;
 use arrival::Arrival;
-use line::answer;
 use sessions::Tables;
 use sessions::Told;
 use statistics::Statistics;

@@ -1,11 +1,10 @@
 // What the calls over listeners and sessions answer, in words.
-use line::answer;
 use session::Session;
 use session::SessionState;
 use sessions::Answer;
 use sessions::Tables;
 use timing::Timing;
-ghost use Rattle.line.specs.Answer.{Puts};
+ghost use Rattle.answer.specs.Answer.{Puts};
 ghost use Rattle.sessions.specs.Calls.{meaning};
 ghost use Rattle.sessions.specs.Table.{requested, taken, codes as codesTold};
 ghost use Rattle.scenario_md.specs.Words.{answerWords, statusWords, heardWords, usedWords, recordWords, slotWords};

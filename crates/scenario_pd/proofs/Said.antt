@@ -14,7 +14,7 @@ use lib.Seq.{take-all, take-length}
 use Rattle.line.specs.declared.Field.{Field}
 use Rattle.line.specs.declared.Count.{Count}
 use Rattle.line.specs.Line.{numberField, lastField, octetsIn, ends, withEnd, withOctets}
-use Rattle.line.specs.Answer.{Answers}
+use Rattle.answer.specs.Answer.{Answers}
 use Rattle.scenario_pd.specs.Effect.{withNumber}
 
 -- so many octets, or all where they are fewer

@@ -9,7 +9,7 @@ use borrow.Author.Tests.{ltb-true, ltb-false}
 use lib.Dec.{ltb}
 use lib.ListN.{length, take, getD, length-take, length-map}
 use lib.Seq.{getD-take}
-use Rattle.line.specs.Answer.{octets, refused as refusedWords}
+use Rattle.answer.specs.Answer.{octets, refused as refusedWords}
 use Rattle.subscription.specs.declared.Subscription.{Subscription}
 use Rattle.subscription.specs.Record.{freeRecord}
 use Rattle.subscription.specs.Step.{shownAt}

@@ -14,8 +14,8 @@ use Rattle.statistics.specs.declared.Statistics.{Statistics}
 use Rattle.line.specs.declared.Field.{Field}
 use Rattle.line.specs.declared.Count.{Count}
 use Rattle.line.specs.Line.{readTo, numberField, lastField, octetsIn, ends, withOctets}
-use Rattle.line.specs.Answer.{room, Puts, Answers}
-use Rattle.line.proofs.Rooms.{pieces, answered, unanswered}
+use Rattle.answer.specs.Answer.{room, Puts, Answers}
+use Rattle.answer.proofs.Rooms.{pieces, answered, unanswered}
 use Rattle.subscription.specs.declared.Subscription.{Subscription}
 use Rattle.subscription.specs.declared.Filter.{Filter}
 use Rattle.subscription.specs.Table.{Call, subscribe, telegram, read, Answer, step}

@@ -6,7 +6,7 @@ use Prim.Native.Nat.{ℕ, _%_, _^_}
 use lib.ListN.{take, drop}
 use Rattle.line.specs.declared.Field.{Field}
 use Rattle.line.specs.Line.{numberField}
-use Rattle.line.specs.Answer.{Answers}
+use Rattle.answer.specs.Answer.{Answers}
 use Rattle.subscription.specs.declared.Subscription.{Subscription}
 use Rattle.subscription.specs.Table.{Call, Table, step}
 use Rattle.statistics.specs.declared.Statistics.{Statistics}

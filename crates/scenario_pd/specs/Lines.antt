@@ -11,7 +11,7 @@ use Rattle.arrival.specs.declared.Arrival.{Arrival}
 use Rattle.statistics.specs.declared.Statistics.{Statistics}
 use Rattle.line.specs.declared.Field.{Field}
 use Rattle.line.specs.Line.{readTo, verbIs, ends, withEnd, withOctets}
-use Rattle.line.specs.Answer.{ascii, word, refused}
+use Rattle.answer.specs.Answer.{ascii, word, refused}
 use Rattle.subscription.specs.declared.Subscription.{Subscription}
 use Rattle.subscription.specs.declared.Filter.{Filter}
 use Rattle.subscription.specs.Record.{freeRecord}

@@ -8,7 +8,7 @@ use lib.ListN.{length, getD}
 use Rattle.octets.specs.Octets.{part}
 use Rattle.fcs.specs.Fcs.{crc32}
 use Rattle.line.specs.Line.{readTo, verbIs, withEnd, withOctets}
-use Rattle.line.specs.Answer.{ascii, word, number, refused}
+use Rattle.answer.specs.Answer.{ascii, word, number, refused}
 use Rattle.subscription.specs.Record.{freeRecord}
 use Rattle.subscription.specs.Table.{read, step}
 use Rattle.scenario_pd_words.specs.Words.{answerWords, recordWords}

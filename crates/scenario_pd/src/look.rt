@@ -1,11 +1,10 @@
 // The calls that only look at subscriptions: `read`, `slot` and `part`.
 use crate::Slots;
-use line::answer;
 use subscription::Subscription;
 use subscriptions::Reading;
 ghost use mathlib.Core.Path.{_≡_};
 ghost use lib.ListN.{getD};
-ghost use Rattle.line.specs.Answer.{Puts, Answers};
+ghost use Rattle.answer.specs.Answer.{Puts, Answers};
 ghost use Rattle.subscription.specs.Record.{freeRecord};
 ghost use Rattle.subscription.specs.Table as table;
 ghost use Rattle.lent.specs.Lent.{lentTable};

@@ -2,7 +2,7 @@
 use mathlib.Core.Bool.{cond}
 use mathlib.Core.List.{List, _++_}
 use Prim.Native.Nat.{ℕ}
-use Rattle.line.specs.Answer.{ascii, word, wordOf, decimal, number, octets, refused as refusedWords}
+use Rattle.answer.specs.Answer.{ascii, word, wordOf, decimal, number, octets, refused as refusedWords}
 use Rattle.subscription.specs.declared.State.{State}
 use Rattle.subscription.specs.declared.State.the-variants.{NeverReceived, Valid, TimedOut}
 use Rattle.subscription.specs.declared.LastTaken.{LastTaken}

@@ -1,10 +1,9 @@
 // What the calls over subscriptions answer, in words.
-use line::answer;
 use subscription::LastTaken;
 use subscription::State;
 use subscription::Subscription;
 use subscriptions::Answer;
-ghost use Rattle.line.specs.Answer.{Puts};
+ghost use Rattle.answer.specs.Answer.{Puts};
 ghost use Rattle.subscriptions.specs.Calls.{meaning};
 ghost use Rattle.scenario_pd_words.specs.Words.{answerWords, stateWords, grantedWords, lastWords, recordWords};
 

@@ -24,8 +24,9 @@ use Rattle.publication.specs.Publication.{madeOf, sendChecks, Sends}
 use Rattle.line.specs.declared.Field.{Field}
 use Rattle.line.specs.Line.{readTo, numberField, octetsField, octetsIn, ends, lastField, verbIs, withOctets, withEnd}
 use Rattle.line.specs.declared.Count.{Count}
-use Rattle.line.specs.Answer.{ascii, word, number as numberWord, octets, Puts}
-use Rattle.line.proofs.Said.{fresh, not-answered, answered-by, before-read, last-read}
+use Rattle.answer.specs.Answer.{ascii, word, number as numberWord, octets, Puts}
+use Rattle.line.proofs.Said.{fresh, before-read, last-read}
+use Rattle.answer.proofs.Rooms.{not-answered, answered-by}
 use Rattle.scenario_wire.specs.declared.CommonFields.{CommonFields}
 use Rattle.scenario_wire.specs.declared.PdFields.{PdFields}
 use Rattle.scenario_wire.specs.declared.publications.Held.{Held}

@@ -10,7 +10,7 @@ use Rattle.pd.specs.Pd.{frameOf}
 use Rattle.publication.specs.declared.Publication.{Publication}
 use Rattle.publication.specs.Publication.{madeOf, sendChecks, sentAt}
 use Rattle.line.specs.Line.{readTo, verbIs, withOctets, withEnd}
-use Rattle.line.specs.Answer.{ascii, word, Answers}
+use Rattle.answer.specs.Answer.{ascii, word, Answers}
 use Rattle.scenario_wire.specs.Wire.{field, value8, value4, pdFields, targetOf, wroteWords}
 use Rattle.scenario_wire.specs.declared.publications.Held.{Held}
 use Rattle.scenario_wire.specs.declared.publications.Held.the-variants.{Nothing, Made}

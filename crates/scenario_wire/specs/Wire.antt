@@ -20,7 +20,7 @@ use Rattle.md.specs.declared.MdTaken.the-variants as mdTaken
 use Rattle.md.specs.Md as md
 use Rattle.line.specs.declared.Field.{Field}
 use Rattle.line.specs.Line.{readTo, numberField, octetsField, octetsIn, verbIs, withOctets}
-use Rattle.line.specs.Answer.{ascii, spaced, word, decimal, number, octets, refused}
+use Rattle.answer.specs.Answer.{ascii, spaced, word, decimal, number, octets, refused}
 use Rattle.scenario_wire.specs.declared.CommonFields.{CommonFields}
 use Rattle.scenario_wire.specs.declared.PdFields.{PdFields}
 

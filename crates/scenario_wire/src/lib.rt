@@ -3,7 +3,6 @@
 pub mod publications;
 
 use line::Field;
-use line::answer;
 use md::MdHeader;
 use md::MdTaken;
 use pd::PdHeader;
@@ -11,7 +10,7 @@ use pd::PdTaken;
 use telegram::Common;
 use telegram::Written;
 ghost use mathlib.Core.Path.{_≡_};
-ghost use Rattle.line.specs.Answer.{Puts, Answers};
+ghost use Rattle.answer.specs.Answer.{Puts, Answers};
 ghost use Rattle.scenario_wire.specs.Wire.{commonFields, pdFields, commonWords, pdWords, sessionWords, mdWords, pdtakeWords, mdtakeWords};
 ghost use Rattle.scenario_wire.specs.Wire.{writtenWords, pdWroteWords, mdWroteWords};
 ghost use Rattle.scenario_wire.specs.Wire.{crcAnswer, pdtakeAnswer, mdtakeAnswer, pdwriteAnswer, mdwriteAnswer, wireAnswer};

@@ -1,5 +1,4 @@
 // The calls over one publication: `pub` and `send`.
-use line::answer;
 use publication::Publication;
 ghost use mathlib.Core.Option.{some};
 ghost use Rattle.scenario_wire.specs.Publications.{pubSaid, sentSaid, sendSaid, publicationSaid, Publishes};

@@ -72,6 +72,16 @@ module _ (number : Counters → ℕ) (q : ℕ → Bool) (Good : Counters → Typ
       ∙ ap (λ (m : ℕ). (m + many counts more) % 2 ^ 32) n
       ∙ one-more (counts a) (number (countersOf f s)) (many counts more)
 
+-- over a list of calls on tables, each of which adds to the statistics: they are those of a history that counts, call by call, what each adds
+module _ {Call State : Type 0} (on : Call → State → State) (adds : Call → State → Statistics → Statistics) (over : List Call → State → Statistics → Statistics) (history : List Call → State → List Arrived)
+    (over-none : (t : State) (s : Statistics) → over [] t s ≡ s)
+    (over-call : (c : Call) (calls : List Call) (t : State) (s : Statistics) → over (c ∷ calls) t s ≡ over calls (on c t) (adds c t s))
+    (none : (t : State) (s : Statistics) → afterAll (history [] t) s ≡ s)
+    (call : (c : Call) (calls : List Call) (t : State) (s : Statistics) → afterAll (history (c ∷ calls) t) s ≡ afterAll (history calls (on c t)) (adds c t s)) where
+  pub of-history : (calls : List Call) (t : State) (s : Statistics) → over calls t s ≡ afterAll (history calls t) s
+  of-history [] t s = over-none t s ∙ sym (none t s)
+  of-history (c ∷ calls) t s = over-call c calls t s ∙ of-history calls (on c t) (adds c t s) ∙ sym (call c calls t s)
+
 -- what is counted from nothing on
 zeros : (f : Family) → countersOf f noStatistics ≡ noneCounted
 zeros Pd = refl

@@ -4,8 +4,9 @@ use Prim.Native.Nat.{ℕ, suc, _+_, _-_, _/_, _≤_}
 use native.Mathlib.Omega.{arith}
 use lib.ListN.{length, set, length-set}
 use Rattle.octets.specs.Octets.{put}
+use Rattle.octets.proofs.Halves.{put-nil}
 use Rattle.capture.specs.Hex.{digitsOf}
-use Rattle.capture.proofs.Written.{put-none, digits-more}
+use Rattle.capture.proofs.Written.{digits-more}
 use borrow.Author.Needs.{needs}
 use Rattle.capture.proofs.put_number.Statement.{statement}
 use Rattle.capture.proofs.put_number.Tie as tie
@@ -59,7 +60,7 @@ returns c =
     let l = c .before .loop in
     let a = c .before .before .before .args in
     let e : 0 ≡ l .i = omega arith in
-    sym (put-none (a .k) (l .target)) ∙ ap (λ (m : ℕ). put (a .k) (digitsOf m (l .rest)) (l .target)) e ∙ l .inv .2
+    sym (put-nil (l .target) (a .k)) ∙ ap (λ (m : ℕ). put (a .k) (digitsOf m (l .rest)) (l .target)) e ∙ l .inv .2
 
 pub put-number-spec : {M : Type 1} → statement M
 put-number-spec =

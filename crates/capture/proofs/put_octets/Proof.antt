@@ -5,8 +5,9 @@ use native.Mathlib.Omega.{arith}
 use mathlib.Core.List.{List}
 use lib.ListN.{length, drop, set, length-set, drop-of-length-le}
 use Rattle.octets.specs.Octets.{put}
+use Rattle.octets.proofs.Halves.{put-nil}
 use Rattle.capture.specs.Hex.{hexOf}
-use Rattle.capture.proofs.Written.{put-none, hex-more}
+use Rattle.capture.proofs.Written.{hex-more}
 use borrow.Author.Needs.{needs}
 use Rattle.capture.proofs.put_octets.Statement.{statement}
 use Rattle.capture.proofs.put_octets.Tie as tie
@@ -69,7 +70,7 @@ returns : tie.Need-returns Inv-loop μ-loop
 returns c =
     let l = c .before .loop in
     let a = c .before .before .before .before .args in
-    sym (put-none (l .at) (l .target)) ∙ ap (λ (s : List ℕ). put (l .at) (hexOf s) (l .target)) (sym (drop-of-length-le (a .s .now) {i = l .i} (omega arith))) ∙ l .inv .3
+    sym (put-nil (l .target) (l .at)) ∙ ap (λ (s : List ℕ). put (l .at) (hexOf s) (l .target)) (sym (drop-of-length-le (a .s .now) {i = l .i} (omega arith))) ∙ l .inv .3
 
 pub put-octets-spec : {M : Type 1} → statement M
 put-octets-spec =

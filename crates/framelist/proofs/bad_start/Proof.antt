@@ -1,5 +1,5 @@
 -- Behind a piece the place is within the room.
-use Rattle.line.proofs.Rooms.{within}
+use Rattle.answer.proofs.Rooms.{within}
 use borrow.Author.Needs.{needs}
 use Rattle.framelist.proofs.bad_start.Statement.{statement}
 use Rattle.framelist.proofs.bad_start.Tie as tie

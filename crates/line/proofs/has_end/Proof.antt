@@ -6,7 +6,7 @@ use Prim.Native.Nat.{ℕ, _+_, _-_, _≤_, max}
 use native.Mathlib.Omega.{arith}
 use lib.Dec.{eqb, ltb}
 use lib.ListN.{length, getD, drop}
-use Rattle.line.specs.Answer.{hasEnd}
+use Rattle.line.specs.Lines.{hasEnd}
 use Rattle.line.proofs.Ends.{end-more, end-all}
 use borrow.Author.Needs.{needs}
 use Rattle.line.proofs.has_end.Statement.{statement}

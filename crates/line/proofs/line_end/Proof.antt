@@ -4,7 +4,7 @@ use mathlib.Core.List.{List}
 use Prim.Native.Nat.{ℕ, _≤_, _-_}
 use native.Mathlib.Omega.{arith}
 use lib.ListN.{length}
-use Rattle.line.specs.Answer.{firstEnd}
+use Rattle.line.specs.Lines.{firstEnd}
 use Rattle.line.proofs.Ends.{end-here, end-next, end-none}
 use borrow.Author.Needs.{needs}
 use Rattle.line.proofs.line_end.Statement.{statement}

@@ -5,7 +5,7 @@ use mathlib.Core.List.{List}
 use Prim.Native.Nat.{ℕ, _+_, _≤_, _-_}
 use native.Mathlib.Omega.{arith}
 use lib.ListN.{length, take, drop, length-drop}
-use Rattle.line.specs.Answer.{firstEnd, hasEnd}
+use Rattle.line.specs.Lines.{firstEnd, hasEnd}
 use Rattle.line.proofs.Ends.{end-passed}
 use borrow.Author.Needs.{needs}
 use Rattle.line.proofs.near_end.Statement.{statement}

@@ -2,8 +2,8 @@
 use mathlib.Core.Path.{refl}
 use mathlib.Core.Option.{some}
 use native.Mathlib.Omega.{arith}
-use Rattle.line.specs.Answer.{word}
-use Rattle.line.proofs.Rooms.{answered}
+use Rattle.answer.specs.Answer.{word}
+use Rattle.answer.proofs.Rooms.{answered}
 use Rattle.scenario_calls.specs.Calls.{saying, effectOf}
 use Rattle.scenario_calls.proofs.Calls.{first, next, lent, kept, call-stays, bad, always}
 use borrow.Author.Needs.{needs}

@@ -4,8 +4,8 @@ use mathlib.Core.List.{List}
 use Prim.Native.Nat.{ℕ}
 use lib.ListN.{take}
 use Rattle.dataset.specs.declared.Form.the-variants.{Wire, Host}
-use Rattle.line.specs.Answer.{ascii}
-use Rattle.line.proofs.Said.{answered-as}
+use Rattle.answer.specs.Answer.{ascii}
+use Rattle.answer.proofs.Rooms.{answered-as}
 use Rattle.scenario_data.proofs.Described.{by-types, by-tohost, by-towire, by-none, describes-as, describes-none, describes-kept}
 use Rattle.scenario_data.specs.Data.{convertAnswer}
 use borrow.Author.Needs.{needs}

@@ -1,5 +1,5 @@
 -- The conversion's answer in words.
-use Rattle.line.proofs.Rooms.{pieces}
+use Rattle.answer.proofs.Rooms.{pieces}
 use Rattle.scenario_data.proofs.Described.{converted-words}
 use Rattle.scenario_data.specs.Data.{convertWords}
 use borrow.Author.Needs.{needs}

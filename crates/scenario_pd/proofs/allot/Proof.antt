@@ -1,7 +1,7 @@
 -- Within the records and the store.
 use mathlib.Core.Path.{refl}
 use borrow.Author.Tests.{le-leb, lt-leb}
-use Rattle.line.proofs.Rooms.{answered}
+use Rattle.answer.proofs.Rooms.{answered}
 use Rattle.scenario_pd.proofs.Turning.{unturned}
 use borrow.Author.Needs.{needs}
 use Rattle.scenario_pd.proofs.allot.Statement.{statement}

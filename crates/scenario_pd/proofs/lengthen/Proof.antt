@@ -1,7 +1,7 @@
 -- A slot in use, or none such.
 use mathlib.Core.Path.{refl}
 use borrow.Author.Tests.{lt-ltb, le-ltb}
-use Rattle.line.proofs.Rooms.{answered}
+use Rattle.answer.proofs.Rooms.{answered}
 use borrow.Author.Needs.{needs}
 use Rattle.scenario_pd.proofs.lengthen.Statement.{statement}
 use Rattle.scenario_pd.proofs.lengthen.Tie as tie

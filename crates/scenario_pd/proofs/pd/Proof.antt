@@ -4,7 +4,7 @@ use mathlib.Core.Option.{Option}
 use Rattle.line.specs.Line.{lastField}
 use Rattle.scenario_pd.proofs.Turning.{by-effect, not-calling, not-counting, pd-said, pd-bad}
 use Rattle.subscription.specs.Table.{Call}
-use Rattle.line.proofs.Rooms.{unanswered}
+use Rattle.answer.proofs.Rooms.{unanswered}
 use Rattle.scenario_pd.specs.Effect.{calling, counting}
 use borrow.Author.Needs.{needs}
 use Rattle.scenario_pd.proofs.pd.Statement.{statement}
@@ -63,7 +63,7 @@ same-length-2 c = search needs
 returns-2 : tie.Need-returns-2
 returns-2 c =
     let a = c .before .before .before .before .before .before .before .before .before .before .before .before .before .before .before .before .before .before .before .before .before .before .args in
-    let e = pd-said (a .local) (a .s .now) (c .before .before .before .before .before .before .before .before .before .before .before .before .before .before .before .before .before .before .behind .result) (c .before .before .before .before .before .before .before .before .before .before .before .before .before .before .before .before .before .number .result) (c .before .before .before .before .before .before .before .before .before .before .before .before .before .before .before .before .number2 .result) (c .before .before .before .before .before .before .before .before .before .before .before .before .before .before .before .number3 .result) (c .before .before .before .before .before .before .before .before .before .before .before .before .octets .result) (c .before .before .before .before .before .before .before .before .before .before .before .before .before .before .before .before .before .before .behind .ensures) (c .before .before .before .before .before .before .before .before .before .before .before .before .before .before .before .before .before .number .ensures) (c .before .before .before .before .before .before .before .before .before .before .before .before .before .before .before .before .number2 .ensures) (c .before .before .before .before .before .before .before .before .before .before .before .before .before .before .before .number3 .ensures) (c .before .before .before .before .before .before .before .before .before .before .before .before .octets .ensures .1 .0 ∙ ap (lastField (a .s .now) (c .before .before .before .before .before .before .before .before .before .before .before .before .before .before .before .number3 .result)) (sym (c .before .before .before .before .before .before .before .before .before .before .before .before .before .before .buffer .ensures .0))) _ (c .before .before .before .before .before .before .before .before .before .word .result) (c .before .before .before .before .before .before .before .before .word2 .result) (c .before .before .before .before .before .before .before .before .before .before .if1 .left) (c .before .before .before .before .before .before .before .before .before .before .before .before .octets .ensures .1 .1 (c .before .before .before .before .before .before .before .before .before .before .if1 .left)) (c .before .before .before .before .before .before .before .before .before .word .ensures) (c .before .before .before .before .before .before .before .before .word2 .ensures) in (
+    let e = pd-said (a .local) (a .s .now) (c .before .before .before .before .before .before .before .before .before .before .before .before .before .before .before .before .before .before .behind .result) (c .before .before .before .before .before .before .before .before .before .before .before .before .before .before .before .before .before .number .result) (c .before .before .before .before .before .before .before .before .before .before .before .before .before .before .before .before .number2 .result) (c .before .before .before .before .before .before .before .before .before .before .before .before .before .before .before .number3 .result) (c .before .before .before .before .before .before .before .before .before .before .before .before .octets .result) (c .before .before .before .before .before .before .before .before .before .before .before .before .before .before .before .before .before .before .behind .ensures) (c .before .before .before .before .before .before .before .before .before .before .before .before .before .before .before .before .before .number .ensures) (c .before .before .before .before .before .before .before .before .before .before .before .before .before .before .before .before .number2 .ensures) (c .before .before .before .before .before .before .before .before .before .before .before .before .before .before .before .number3 .ensures) (c .before .before .before .before .before .before .before .before .before .before .before .before .octets .ensures .1 .0 ∙ ap (lastField (a .s .now) (c .before .before .before .before .before .before .before .before .before .before .before .before .before .before .before .number3 .result)) (sym (c .before .before .before .before .before .before .before .before .before .before .before .before .before .before .buffer .ensures .0))) _ (c .before .before .before .before .before .before .before .before .before .word .result) (c .before .before .before .before .before .before .before .before .word2 .result) (c .before .before .before .before .before .before .before .before .before .before .if1 .left) (c .before .before .before .before .before .before .before .before .before .before .before .before .octets .ensures .1 .1 .0 (c .before .before .before .before .before .before .before .before .before .before .if1 .left)) (c .before .before .before .before .before .before .before .before .before .word .ensures) (c .before .before .before .before .before .before .before .before .word2 .ensures) in (
       by-effect (ap (λ (x : Option Call). calling x (a .t) (a .store .now)) e) (c .before .before .before .before .receive .ensures .0),
       c .before .before .before .before .receive .ensures .1 ∙ sym (ap (λ (x : Option Call). counting x (a .t) (a .store .now) (a .statistics)) e),
     )

@@ -1,5 +1,5 @@
 -- The fields one after the other.
-use Rattle.line.proofs.Rooms.{_⨟_}
+use Rattle.answer.proofs.Rooms.{_⨟_}
 use borrow.Author.Needs.{needs}
 use Rattle.scenario_pd_words.proofs.put_granted.Statement.{statement}
 use Rattle.scenario_pd_words.proofs.put_granted.Tie as tie

@@ -1,5 +1,5 @@
 -- Two numbers where a counter is held.
-use Rattle.line.proofs.Rooms.{_⨟_}
+use Rattle.answer.proofs.Rooms.{_⨟_}
 use borrow.Author.Needs.{needs}
 use Rattle.scenario_pd_words.proofs.put_last.Statement.{statement}
 use Rattle.scenario_pd_words.proofs.put_last.Tie as tie

@@ -1,5 +1,5 @@
 -- A record in use: its fields one after the other.
-use Rattle.line.proofs.Rooms.{_⨟_}
+use Rattle.answer.proofs.Rooms.{_⨟_}
 use borrow.Author.Needs.{needs}
 use Rattle.scenario_pd_words.proofs.put_record.Statement.{statement}
 use Rattle.scenario_pd_words.proofs.put_record.Tie as tie

@@ -1,6 +1,6 @@
 -- Each verb has its answer.
 use mathlib.Core.Path.{sym, _∙_}
-use Rattle.line.proofs.Said.{answered-as, not-answered}
+use Rattle.answer.proofs.Rooms.{answered-as, not-answered}
 use Rattle.scenario_wire.proofs.Wired.{by-crc, by-pdtake, by-pdwrite, by-mdtake, by-mdwrite, by-none}
 use borrow.Author.Needs.{needs}
 use Rattle.scenario_wire.proofs.answer.Statement.{statement}

@@ -1,8 +1,9 @@
 -- The last field is bad, or its octets are checked.
 use mathlib.Core.Path.{_∙_}
 use lib.ListN.{take}
-use Rattle.line.proofs.Rooms.{pieces, _⨟_}
-use Rattle.line.proofs.Said.{unsaid, said-octets, not-answered, answered-by}
+use Rattle.answer.proofs.Rooms.{pieces, _⨟_}
+use Rattle.line.proofs.Said.{unsaid, said-octets}
+use Rattle.answer.proofs.Rooms.{not-answered, answered-by}
 use Rattle.scenario_wire.proofs.Wired.{crc-is}
 use Rattle.scenario_wire.specs.Wire.{crcWords}
 use borrow.Author.Needs.{needs}
@@ -49,7 +50,7 @@ same-length c = search needs
 returns-2 : tie.Need-returns-2
 unfolding crcWords
 returns-2 c = let a = c .before .before .before .before .before .before .before .before .before .before .before .before .before .before .before .before .before .before .before .args in
-    answered-by (crc-is (a .s .now) (c .before .before .before .before .before .before .before .before .before .before .before .before .before .before .before .behind .result) (c .before .before .before .before .before .before .before .before .before .before .before .before .before .before .before .behind .ensures) ∙ said-octets (a .s .now) (c .before .before .before .before .before .before .before .before .before .before .before .before .before .before .before .behind .result) (c .before .before .before .before .before .before .before .before .before .before .before .before .before .before .before .before .buffer .result) (c .before .before .before .before .before .before .before .before .before .before .before .before .before .octets .result) crcWords (c .before .before .before .before .before .before .before .before .before .before .before .before .before .octets .last .1 .1 .0) (c .before .before .before .before .before .before .before .before .before .before .before .before .before .before .before .before .buffer .ensures .0) (c .before .before .before .before .before .before .before .before .before .before .before .before .before .octets .ensures .1 .0) (c .before .before .before .before .before .before .before .before .before .before .before .if1 .left) (c .before .before .before .before .before .before .before .before .before .before .before .before .before .octets .ensures .1 .1)) (pieces (crcWords (take (c .before .before .before .before .before .before .before .before .before .before .before .before .before .octets .result .count) (c .before .before .before .before .before .before .before .before .before .before .before .before .before .octets .last .1 .1 .0))) (cc (c .before .before .before .frame-check .ensures)) (c .before .before .before .before .before .before .before .before .word .ensures ⨟ c .before .before .number8 .ensures))
+    answered-by (crc-is (a .s .now) (c .before .before .before .before .before .before .before .before .before .before .before .before .before .before .before .behind .result) (c .before .before .before .before .before .before .before .before .before .before .before .before .before .before .before .behind .ensures) ∙ said-octets (a .s .now) (c .before .before .before .before .before .before .before .before .before .before .before .before .before .before .before .behind .result) (c .before .before .before .before .before .before .before .before .before .before .before .before .before .before .before .before .buffer .result) (c .before .before .before .before .before .before .before .before .before .before .before .before .before .octets .result) crcWords (c .before .before .before .before .before .before .before .before .before .before .before .before .before .octets .last .1 .1 .0) (c .before .before .before .before .before .before .before .before .before .before .before .before .before .before .before .before .buffer .ensures .0) (c .before .before .before .before .before .before .before .before .before .before .before .before .before .octets .ensures .1 .0) (c .before .before .before .before .before .before .before .before .before .before .before .if1 .left) (c .before .before .before .before .before .before .before .before .before .before .before .before .before .octets .ensures .1 .1 .0)) (pieces (crcWords (take (c .before .before .before .before .before .before .before .before .before .before .before .before .before .octets .result .count) (c .before .before .before .before .before .before .before .before .before .before .before .before .before .octets .last .1 .1 .0))) (cc (c .before .before .before .frame-check .ensures)) (c .before .before .before .before .before .before .before .before .word .ensures ⨟ c .before .before .number8 .ensures))
 
 pub crc-spec : {M : Type 1} → statement M
 crc-spec =

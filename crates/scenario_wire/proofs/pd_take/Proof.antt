@@ -1,6 +1,7 @@
 -- The last field is bad, or its octets are taken apart.
 use mathlib.Core.Path.{_∙_}
-use Rattle.line.proofs.Said.{unsaid, said-octets, not-answered, answered-by}
+use Rattle.line.proofs.Said.{unsaid, said-octets}
+use Rattle.answer.proofs.Rooms.{not-answered, answered-by}
 use Rattle.scenario_wire.proofs.Wired.{pdtake-is}
 use Rattle.scenario_wire.specs.Wire.{pdtakeWords}
 use borrow.Author.Needs.{needs}
@@ -37,7 +38,7 @@ same-length c = search needs
 
 returns-2 : tie.Need-returns-2
 returns-2 c = let a = c .before .before .before .before .before .before .before .before .before .before .before .before .before .args in
-    answered-by (pdtake-is (a .s .now) (c .before .before .before .before .before .before .before .before .before .behind .result) (c .before .before .before .before .before .before .before .before .before .behind .ensures) ∙ said-octets (a .s .now) (c .before .before .before .before .before .before .before .before .before .behind .result) (c .before .before .before .before .before .before .before .before .before .before .buffer .result) (c .before .before .before .before .before .before .before .octets .result) pdtakeWords (c .before .before .before .before .before .before .before .octets .last .1 .1 .0) (c .before .before .before .before .before .before .before .before .before .before .buffer .ensures .0) (c .before .before .before .before .before .before .before .octets .ensures .1 .0) (c .before .before .before .before .before .if1 .left) (c .before .before .before .before .before .before .before .octets .ensures .1 .1)) (c .before .before .take-pd .ensures)
+    answered-by (pdtake-is (a .s .now) (c .before .before .before .before .before .before .before .before .before .behind .result) (c .before .before .before .before .before .before .before .before .before .behind .ensures) ∙ said-octets (a .s .now) (c .before .before .before .before .before .before .before .before .before .behind .result) (c .before .before .before .before .before .before .before .before .before .before .buffer .result) (c .before .before .before .before .before .before .before .octets .result) pdtakeWords (c .before .before .before .before .before .before .before .octets .last .1 .1 .0) (c .before .before .before .before .before .before .before .before .before .before .buffer .ensures .0) (c .before .before .before .before .before .before .before .octets .ensures .1 .0) (c .before .before .before .before .before .if1 .left) (c .before .before .before .before .before .before .before .octets .ensures .1 .1 .0)) (c .before .before .take-pd .ensures)
 
 pub pd-take-spec : {M : Type 1} → statement M
 pd-take-spec =

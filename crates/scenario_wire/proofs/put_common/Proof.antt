@@ -1,5 +1,5 @@
 -- One number after the other.
-use Rattle.line.proofs.Rooms.{_⨟_}
+use Rattle.answer.proofs.Rooms.{_⨟_}
 use Rattle.scenario_wire.specs.Wire.{commonWords}
 use borrow.Author.Needs.{needs}
 use Rattle.scenario_wire.proofs.put_common.Statement.{statement}

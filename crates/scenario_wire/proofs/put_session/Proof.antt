@@ -4,7 +4,7 @@ use mir.Facts.{toZ-ofZ}
 use mir.Val.{ofZ, toZ}
 use mir.Syntax.{w32}
 use Rattle.octets.specs.Octets.{unsigned}
-use Rattle.line.proofs.Rooms.{pieces, _⨟_}
+use Rattle.answer.proofs.Rooms.{pieces, _⨟_}
 use Rattle.scenario_wire.proofs.Wired.{session-words}
 use Rattle.scenario_wire.specs.Wire.{sessionWords}
 use borrow.Author.Needs.{needs}

@@ -1,7 +1,7 @@
 -- Each answer has its words.
 use mathlib.Core.Path.{ap, sym, _∙_}
 use Rattle.md.specs.declared.MdTaken.{MdTaken}
-use Rattle.line.proofs.Rooms.{pieces}
+use Rattle.answer.proofs.Rooms.{pieces}
 use Rattle.scenario_wire.specs.Wire.{mdTakenWords, mdtakeWords}
 use borrow.Author.Needs.{needs}
 use Rattle.scenario_wire.proofs.take_md.Statement.{statement}

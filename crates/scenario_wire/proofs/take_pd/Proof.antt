@@ -1,6 +1,6 @@
 -- Each answer has its words.
 use mathlib.Core.Path.{ap, sym, _∙_}
-use Rattle.line.proofs.Rooms.{pieces}
+use Rattle.answer.proofs.Rooms.{pieces}
 use Rattle.scenario_wire.specs.Wire.{pdTakenWords, pdtakeWords}
 use borrow.Author.Needs.{needs}
 use Rattle.scenario_wire.proofs.take_pd.Statement.{statement}

@@ -1,5 +1,5 @@
 -- The writer's answer in words.
-use Rattle.line.proofs.Rooms.{pieces}
+use Rattle.answer.proofs.Rooms.{pieces}
 use Rattle.scenario_wire.proofs.Wired.{pd-wrote}
 use Rattle.scenario_wire.specs.Wire.{pdWroteWords}
 use borrow.Author.Needs.{needs}

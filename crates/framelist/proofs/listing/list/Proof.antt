@@ -36,13 +36,14 @@ returns c =
     let a = c .before .before .before .before .before .before .before .before .before .before .before .before .before .args in
     let f : Frame = c .before .before .before .before .before .before .before .x .given .0 .0 in
     let e : FrameLine.Frame f ≡ frameOf (a .s .now) = sym (c .before .before .before .before .before .before .before .x .given .1) ∙ c .before .before .before .before .before .before .before .before .before .read-frame .ensures .answer in
-    lists-frame (a .s .now) f e (first-octets (a .s .now) (a .buffer .now) (c .before .before .before .before .before .before .before .before .before .read-frame .last .1 .0) f e (c .before .before .before .before .before .before .before .before .before .read-frame .ensures .buffer)) (c .before .before .receive .ensures)
+    let w = c .before .before .before .before .before .before .before .before .before .read-frame .ensures .buffer in
+    (lists-frame (a .s .now) f e (first-octets (a .s .now) (a .buffer .now) (c .before .before .before .before .before .before .before .before .before .read-frame .last .1 .0) f e w) (c .before .before .receive .ensures), w)
 
 returns-2 : tie.Need-returns-2
 returns-2 c =
     let a = c .before .before .before .before .before .before .before .args in
     let e : FrameLine.Bad ≡ frameOf (a .s .now) = sym (c .before .enum-told .given .1) ∙ c .before .before .before .read-frame .ensures .answer in
-    lists-bad (a .s .now) e (record { answer = c .leave .ensures; store-after = refl })
+    (lists-bad (a .s .now) e (record { answer = c .leave .ensures; store-after = refl }), c .before .before .before .read-frame .ensures .buffer)
 
 pub list-spec : {M : Type 1} → statement M
 list-spec =

@@ -1,5 +1,5 @@
 -- Each outcome has its own words behind the number.
-use Rattle.line.proofs.Rooms.{_⨟_}
+use Rattle.answer.proofs.Rooms.{_⨟_}
 use borrow.Author.Needs.{needs}
 use Rattle.framelist.proofs.listing.put_outcome.Statement.{statement}
 use Rattle.framelist.proofs.listing.put_outcome.Tie as tie

@@ -1,5 +1,5 @@
 -- The pieces one after the other.
-use Rattle.line.proofs.Rooms.{_⨟_}
+use Rattle.answer.proofs.Rooms.{_⨟_}
 use borrow.Author.Needs.{needs}
 use Rattle.framelist.proofs.listing.put_refusal.Statement.{statement}
 use Rattle.framelist.proofs.listing.put_refusal.Tie as tie

@@ -1,7 +1,7 @@
 -- The pieces one after the other.
 use mathlib.Core.Path.{ap}
-use Rattle.line.specs.Answer.{decimal}
-use Rattle.line.proofs.Rooms.{pieces, _⨟_}
+use Rattle.answer.specs.Answer.{decimal}
+use Rattle.answer.proofs.Rooms.{pieces, _⨟_}
 use borrow.Author.Needs.{needs}
 use Rattle.framelist.proofs.listing.put_total.Statement.{statement}
 use Rattle.framelist.proofs.listing.put_total.Tie as tie

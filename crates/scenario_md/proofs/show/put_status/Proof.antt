@@ -1,5 +1,5 @@
 -- Each case has its own words.
-use Rattle.line.proofs.Rooms.{nothing}
+use Rattle.answer.proofs.Rooms.{nothing}
 use Rattle.scenario_md.proofs.Shown.{status-put}
 use borrow.Author.Needs.{needs}
 use Rattle.scenario_md.proofs.show.put_status.Statement.{statement}

@@ -1,6 +1,6 @@
 -- The pieces one after the other.
 use Rattle.scenario_md.proofs.Shown.{status-put}
-use Rattle.line.proofs.Rooms.{_⨟_}
+use Rattle.answer.proofs.Rooms.{_⨟_}
 use borrow.Author.Needs.{needs}
 use Rattle.scenario_md.proofs.show.put_taken.Statement.{statement}
 use Rattle.scenario_md.proofs.show.put_taken.Tie as tie

@@ -1,6 +1,6 @@
 -- By the verb.
 use mathlib.Core.Path.{sym, _∙_}
-use Rattle.line.proofs.Rooms.{unanswered}
+use Rattle.answer.proofs.Rooms.{unanswered}
 use Rattle.scenario_pd.specs.Look.{lookAnswer}
 use borrow.Author.Needs.{needs}
 use Rattle.scenario_pd.proofs.look.answer.Statement.{statement}

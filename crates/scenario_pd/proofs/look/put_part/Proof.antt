@@ -1,12 +1,12 @@
 -- The part from its first octet on.
 use mathlib.Core.Path.{ap, _∙_}
 use Prim.Native.Nat.{ℕ, _*_}
-use Rattle.line.proofs.Rooms.{_⨟_, pieces}
+use Rattle.answer.proofs.Rooms.{_⨟_, pieces}
 use borrow.Author.Tests.{lt-ltb, le-ltb, le-leb, lt-leb}
 use native.Mathlib.Nat.{add-sub-cancel-left}
 use lib.ListN.{take, drop}
 use Rattle.fcs.specs.Fcs.{crc32}
-use Rattle.line.specs.Answer.{number}
+use Rattle.answer.specs.Answer.{number}
 use borrow.Author.Needs.{needs}
 use Rattle.scenario_pd.proofs.look.put_part.Statement.{statement}
 use Rattle.scenario_pd.proofs.look.put_part.Tie as tie

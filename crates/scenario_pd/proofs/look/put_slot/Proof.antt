@@ -1,6 +1,6 @@
 -- Below 32 the record.
 use mathlib.Core.Path.{ap}
-use Rattle.line.proofs.Rooms.{pieces}
+use Rattle.answer.proofs.Rooms.{pieces}
 use borrow.Author.Tests.{lt-ltb, le-ltb}
 use Rattle.scenario_pd_words.specs.Words.{recordWords}
 use borrow.Author.Needs.{needs}

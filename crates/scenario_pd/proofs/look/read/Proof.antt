@@ -4,7 +4,7 @@ use mathlib.Core.List.{List}
 use Prim.Native.Nat.{ℕ}
 use Rattle.line.specs.declared.Field.{Field}
 use Rattle.line.specs.Line.{readTo, lastField, withOctets}
-use Rattle.line.proofs.Rooms.{pieces, answered, unanswered}
+use Rattle.answer.proofs.Rooms.{pieces, answered, unanswered}
 use Rattle.scenario_pd.proofs.Said.{first, octets-said, octets-bad, by-said}
 use Rattle.subscription.specs.Table.{read, step}
 use Rattle.scenario_pd_words.specs.Words.{answerWords}
@@ -69,7 +69,7 @@ returns-2 c =
     let a = c .before .before .before .before .before .before .before .before .before .before .before .before .before .before .before .before .before .before .args in
     by-said
     (first (a .s .now) (readTo 0 4) (c .before .before .before .before .before .before .before .before .before .before .before .before .before .before .behind .result) (c .before .before .before .before .before .before .before .before .before .before .before .before .before .number .result) 8 (λ (k : Field). withOctets (a .s .now) k (λ (set : List ℕ). answerWords (step (read (wordIn k) set) (lentOf (a .t) (a .store .now)) .answer))) (c .before .before .before .before .before .before .before .before .before .before .before .before .before .before .behind .ensures) (c .before .before .before .before .before .before .before .before .before .before .before .before .before .number .ensures)
-    ∙ octets-said (a .s .now) (c .before .before .before .before .before .before .before .before .before .before .before .before .before .number .result) (c .before .before .before .before .before .before .before .before .before .before .octets .result) _ (λ (set : List ℕ). answerWords (step (read (wordIn (c .before .before .before .before .before .before .before .before .before .before .before .before .before .number .result)) set) (lentOf (a .t) (a .store .now)) .answer)) (c .before .before .before .before .before .before .before .before .before .before .octets .ensures .1 .0 ∙ ap (lastField (a .s .now) (c .before .before .before .before .before .before .before .before .before .before .before .before .before .number .result)) (sym (c .before .before .before .before .before .before .before .before .before .before .before .before .buffer .ensures .0))) (c .before .before .before .before .before .before .before .before .if1 .left) (c .before .before .before .before .before .before .before .before .before .before .octets .ensures .1 .1 (c .before .before .before .before .before .before .before .before .if1 .left)))
+    ∙ octets-said (a .s .now) (c .before .before .before .before .before .before .before .before .before .before .before .before .before .number .result) (c .before .before .before .before .before .before .before .before .before .before .octets .result) _ (λ (set : List ℕ). answerWords (step (read (wordIn (c .before .before .before .before .before .before .before .before .before .before .before .before .before .number .result)) set) (lentOf (a .t) (a .store .now)) .answer)) (c .before .before .before .before .before .before .before .before .before .before .octets .ensures .1 .0 ∙ ap (lastField (a .s .now) (c .before .before .before .before .before .before .before .before .before .before .before .before .before .number .result)) (sym (c .before .before .before .before .before .before .before .before .before .before .before .before .buffer .ensures .0))) (c .before .before .before .before .before .before .before .before .if1 .left) (c .before .before .before .before .before .before .before .before .before .before .octets .ensures .1 .1 .0 (c .before .before .before .before .before .before .before .before .if1 .left)))
     (answered
     (pieces _
     (reads-lent (a .t) (a .store .now) _ (c .before .before .before .before .before .before .word .result) (wordIn (c .before .before .before .before .before .before .before .before .before .before .before .before .before .number .result)) (c .before .before .before .before .before .before .before .at-most .result) (c .before .before .before .before .before .before .word .ensures) (c .before .before .before .before .before .before .before .at-most .ensures .1))

@@ -2,8 +2,8 @@
 use mathlib.Core.Path.{ap, _∙_}
 use mathlib.Core.List.{List, _++_}
 use Prim.Native.Nat.{ℕ}
-use Rattle.line.proofs.Rooms.{_⨟_, pieces}
-use Rattle.line.specs.Answer.{octets}
+use Rattle.answer.proofs.Rooms.{_⨟_, pieces}
+use Rattle.answer.specs.Answer.{octets}
 use Rattle.subscription.specs.declared.Subscription.{Subscription}
 use Rattle.subscription.specs.Step.{shownAt}
 use Rattle.scenario_pd_words.specs.Words.{stateWords}

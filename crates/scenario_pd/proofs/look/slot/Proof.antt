@@ -3,7 +3,7 @@ use mathlib.Core.Path.{sym, ap, _∙_}
 use Prim.Native.Nat.{ℕ}
 use Rattle.line.specs.declared.Field.{Field}
 use Rattle.line.specs.Line.{readTo}
-use Rattle.line.proofs.Rooms.{pieces, answered, unanswered}
+use Rattle.answer.proofs.Rooms.{pieces, answered, unanswered}
 use Rattle.scenario_pd.proofs.Said.{one-said, one-bad, by-said}
 use Rattle.scenario_pd.specs.Effect.{wordIn}
 use Rattle.scenario_pd.specs.Look.{slotAnswer, slotWords}

@@ -1,7 +1,7 @@
 -- The line ends behind its cycle, or is bad.
 use mathlib.Core.Path.{refl, sym, ap, _∙_}
 use Rattle.publication.specs.Publication.{madeOf}
-use Rattle.line.specs.Answer.{word}
+use Rattle.answer.specs.Answer.{word}
 use Rattle.scenario_wire.specs.declared.publications.Held.the-variants.{Made}
 use Rattle.scenario_wire.proofs.Wired.{pub-made, pub-bad, publishes-some, publishes-none}
 use Rattle.scenario_wire.specs.Wire.{value8}

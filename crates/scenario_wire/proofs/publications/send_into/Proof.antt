@@ -1,7 +1,7 @@
 -- The words of the sending, and the publication after it.
 use mathlib.Core.Path.{refl}
 use Rattle.scenario_wire.specs.declared.publications.Held.the-variants.{Made}
-use Rattle.line.proofs.Rooms.{pieces}
+use Rattle.answer.proofs.Rooms.{pieces}
 use Rattle.scenario_wire.proofs.Wired.{sent-words, sent-held, publishes-some}
 use Rattle.scenario_wire.specs.Publications.{sentSaid}
 use borrow.Author.Needs.{needs}
