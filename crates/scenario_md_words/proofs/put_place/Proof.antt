@@ -1,9 +1,10 @@
 -- The slot is there, or not.
 use native.Mathlib.Omega.{arith}
-use Rattle.scenario_md.proofs.Shown.{length-mapped, slot-put, no-slot-put}
+use Rattle.sessions.proofs.Arrays.{length-mapped}
+use Rattle.scenario_md_words.proofs.Shown.{slot-put, no-slot-put}
 use borrow.Author.Needs.{needs}
-use Rattle.scenario_md.proofs.show.put_place.Statement.{statement}
-use Rattle.scenario_md.proofs.show.put_place.Tie as tie
+use Rattle.scenario_md_words.proofs.put_place.Statement.{statement}
+use Rattle.scenario_md_words.proofs.put_place.Tie as tie
 
 mul-x : tie.Need-mul-x
 mul-x c = search needs

@@ -10,7 +10,7 @@ use lib.Seq.{drop-cons}
 use Rattle.line.specs.Answer.{Room, room, putAll, Puts, word, signed}
 use Rattle.line.proofs.Rooms.{putAll-append}
 use Rattle.sessions.specs.Table.{codes}
-use Rattle.scenario_md.specs.Words.{allSigned, answerWords}
+use Rattle.scenario_md_words.specs.Words.{allSigned, answerWords}
 
 -- what is left to put, from a room
 abbrev pub left : List ℤ → ℕ → ℕ → List ℕ → Room

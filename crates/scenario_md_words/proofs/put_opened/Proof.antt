@@ -1,8 +1,8 @@
 -- The pieces one after the other.
 use Rattle.line.proofs.Rooms.{_⨟_}
 use borrow.Author.Needs.{needs}
-use Rattle.scenario_md.proofs.show.put_opened.Statement.{statement}
-use Rattle.scenario_md.proofs.show.put_opened.Tie as tie
+use Rattle.scenario_md_words.proofs.put_opened.Statement.{statement}
+use Rattle.scenario_md_words.proofs.put_opened.Tie as tie
 
 slice-aggregate-word-of : tie.Need-slice-aggregate-word-of
 slice-aggregate-word-of c = search needs

@@ -1,8 +1,8 @@
 -- The pieces one after the other.
 use Rattle.line.proofs.Rooms.{_⨟_}
 use borrow.Author.Needs.{needs}
-use Rattle.scenario_md.proofs.show.put_heard.Statement.{statement}
-use Rattle.scenario_md.proofs.show.put_heard.Tie as tie
+use Rattle.scenario_md_words.proofs.put_heard.Statement.{statement}
+use Rattle.scenario_md_words.proofs.put_heard.Tie as tie
 
 put-answer-requires : tie.Need-put-answer-requires
 put-answer-requires c κs = search needs

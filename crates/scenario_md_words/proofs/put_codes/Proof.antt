@@ -1,15 +1,15 @@
 -- The loop's invariant: what is left to put from here gives the room that all of them give.
 use mir.Facts.{toZ-ofZ}
-use Rattle.scenario_md.proofs.Shown.{length-mapped}
+use Rattle.sessions.proofs.Arrays.{length-mapped}
 use lib.IntN.{pos}
 use borrow.Author.Needs.{needs}
 use native.Mathlib.Omega.{arith}
 use mathlib.Core.Path.{_≡_, refl, _∙_}
 use Prim.Native.Nat.{_≤_, _-_}
 use lib.ListN.{length}
-use Rattle.scenario_md.proofs.Codes.{left, codes-begun, code-put, codes-put}
-use Rattle.scenario_md.proofs.show.put_codes.Statement.{statement}
-use Rattle.scenario_md.proofs.show.put_codes.Tie as tie
+use Rattle.scenario_md_words.proofs.Codes.{left, codes-begun, code-put, codes-put}
+use Rattle.scenario_md_words.proofs.put_codes.Statement.{statement}
+use Rattle.scenario_md_words.proofs.put_codes.Tie as tie
 
 abbrev Inv-loop : tie.InvT-loop
 Inv-loop out₀ at codes p₀ i₀ out p i =

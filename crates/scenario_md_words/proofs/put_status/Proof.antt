@@ -1,9 +1,9 @@
 -- Each case has its own words.
 use Rattle.line.proofs.Rooms.{nothing}
-use Rattle.scenario_md.proofs.Shown.{status-put}
+use Rattle.scenario_md_words.proofs.Shown.{status-put}
 use borrow.Author.Needs.{needs}
-use Rattle.scenario_md.proofs.show.put_status.Statement.{statement}
-use Rattle.scenario_md.proofs.show.put_status.Tie as tie
+use Rattle.scenario_md_words.proofs.put_status.Statement.{statement}
+use Rattle.scenario_md_words.proofs.put_status.Tie as tie
 
 enum-told : tie.Need-enum-told
 enum-told c = search needs

@@ -1,8 +1,8 @@
 -- Each case has its own words.
-use Rattle.scenario_md.proofs.Shown.{taken-put}
+use Rattle.scenario_md_words.proofs.Shown.{taken-put}
 use borrow.Author.Needs.{needs}
-use Rattle.scenario_md.proofs.show.put_answer.Statement.{statement}
-use Rattle.scenario_md.proofs.show.put_answer.Tie as tie
+use Rattle.scenario_md_words.proofs.put_answer.Statement.{statement}
+use Rattle.scenario_md_words.proofs.put_answer.Tie as tie
 
 enum-known-a : tie.Need-enum-known-a
 enum-known-a c = search needs

@@ -1,7 +1,7 @@
 -- Each case has its own words.
 use borrow.Author.Needs.{needs}
-use Rattle.scenario_md.proofs.show.put_session.Statement.{statement}
-use Rattle.scenario_md.proofs.show.put_session.Tie as tie
+use Rattle.scenario_md_words.proofs.put_session.Statement.{statement}
+use Rattle.scenario_md_words.proofs.put_session.Tie as tie
 
 enum-told : tie.Need-enum-told
 enum-told c = search needs

@@ -1,8 +1,8 @@
 -- The pieces one after the other.
 use Rattle.line.proofs.Rooms.{_⨟_}
 use borrow.Author.Needs.{needs}
-use Rattle.scenario_md.proofs.show.put_waiting.Statement.{statement}
-use Rattle.scenario_md.proofs.show.put_waiting.Tie as tie
+use Rattle.scenario_md_words.proofs.put_waiting.Statement.{statement}
+use Rattle.scenario_md_words.proofs.put_waiting.Tie as tie
 
 slice-aggregate-word : tie.Need-slice-aggregate-word
 slice-aggregate-word c = search needs

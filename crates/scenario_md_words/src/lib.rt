@@ -8,7 +8,7 @@ use timing::Timing;
 ghost use Rattle.line.specs.Answer.{Puts};
 ghost use Rattle.sessions.specs.Calls.{meaning};
 ghost use Rattle.sessions.specs.Table.{requested, taken, codes as codesTold};
-ghost use Rattle.scenario_md.specs.Words.{answerWords, statusWords, heardWords, usedWords, recordWords, slotWords};
+ghost use Rattle.scenario_md_words.specs.Words.{answerWords, statusWords, heardWords, usedWords, recordWords, slotWords};
 
 // A request: the listener and the session's slot.
 fn put_opened(out: &mut [u8], at: usize, l: usize, k: usize) -> usize

@@ -1,13 +1,12 @@
 -- A status as its 32 bits say it; the record of a session slot.
 -- Assumes nothing.
-use mathlib.Core.Path.{_≡_, refl, sym, ap, _∙_}
+use mathlib.Core.Path.{_≡_, sym, ap, _∙_}
 use mathlib.Core.Bool.{Bool, cond}
-use mathlib.Core.List.{List, [], _∷_, map}
-use Prim.Native.Nat.{ℕ, zero, suc, _<_, _≤_}
-use native.Mathlib.Omega.{arith}
+use mathlib.Core.List.{List}
+use Prim.Native.Nat.{ℕ, _<_, _≤_}
 use borrow.Author.Tests.{lt-ltb, le-ltb}
 use lib.IntN.{ℤ}
-use lib.ListN.{length, getD, length-map}
+use lib.ListN.{length, getD}
 use mir.Syntax.{w32}
 use mir.Val.{SFits, ofZ, toZ}
 use mir.Facts.{toZ-ofZ}
@@ -16,23 +15,10 @@ use Rattle.refusal.specs.Refusal.{noSlot}
 use Rattle.line.specs.Answer.{Puts, word, number, decimal, refused}
 use Rattle.line.proofs.Rooms.{pieces}
 use Rattle.session.specs.declared.Session.{Session}
-use Rattle.session.specs.declared.SessionState.the-variants.{Free}
 use Rattle.session.specs.Session.{freeSession}
 use Rattle.sessions.specs.Table.{taken}
-use Rattle.scenario_md.specs.Words.{answerWords, recordWords, slotWords}
-
--- an array's length is that of the values that it stands for
-pub length-mapped : (X Y : Type 0) (g : X → Y) (l : List X) (n : ℕ) → length (map g l) ≡ n → length l ≡ n
-length-mapped X Y g l n p = sym (length-map l g) ∙ p
-
--- what stands behind an array's end does not matter inside
-inside : {X : Type 0} (xs : List X) (k : ℕ) (d e : X) → k < length xs → getD xs k d ≡ getD xs k e
-inside [] k d e h = absurd (omega arith)
-inside (y ∷ ys) zero d e h = refl
-inside (y ∷ ys) (suc k) d e h = inside ys k d e (omega arith)
-
-abbrev blankSession : Session
-blankSession = record { id = []; state = Free }
+use Rattle.sessions.proofs.Arrays.{blankSession, inside}
+use Rattle.scenario_md_words.specs.Words.{answerWords, recordWords, slotWords}
 
 module _ {at r : ℕ} {o o′ : List ℕ} where
   pub status-put : (x : ℤ) {u : ℕ} → SFits w32 x → u ≡ unsigned (toZ w32 (ofZ w32 x)) → Puts (number 8 u) at o r o′ → Puts (number 8 (unsigned x)) at o r o′
@@ -45,7 +31,7 @@ module _ {at r : ℕ} {o o′ : List ℕ} where
   slot-put xs k l h p =
       let x = getD xs k freeSession in
       pieces (slotWords k xs)
-      (ap (λ (y : Session). recordWords (y .id) (y .state)) (inside xs k blankSession freeSession (omega arith))
+      (ap (λ (y : Session). recordWords (y .id) (y .state)) (inside xs 16 k blankSession freeSession l h)
       ∙ sym (ap (λ (b : Bool). cond b (recordWords (x .id) (x .state)) (refused noSlot)) (lt-ltb k 16 h))) p
 
   pub no-slot-put : (xs : List Session) (k : ℕ) → 16 ≤ k → Puts (refused noSlot) at o r o′ → Puts (slotWords k xs) at o r o′

@@ -1,9 +1,9 @@
 -- The pieces one after the other.
-use Rattle.scenario_md.proofs.Shown.{status-put}
+use Rattle.scenario_md_words.proofs.Shown.{status-put}
 use Rattle.line.proofs.Rooms.{_⨟_}
 use borrow.Author.Needs.{needs}
-use Rattle.scenario_md.proofs.show.put_taken.Statement.{statement}
-use Rattle.scenario_md.proofs.show.put_taken.Tie as tie
+use Rattle.scenario_md_words.proofs.put_taken.Statement.{statement}
+use Rattle.scenario_md_words.proofs.put_taken.Tie as tie
 
 slice-aggregate-word : tie.Need-slice-aggregate-word
 slice-aggregate-word c = search needs
