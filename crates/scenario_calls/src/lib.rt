@@ -3,7 +3,7 @@
 mod counters;
 
 use line::answer;
-use scenario_pd::Slots;
+use scenario_pd_look::Slots;
 use scenario_wire::publications;
 use scenario_wire::publications::Held;
 use sessions::Tables;
