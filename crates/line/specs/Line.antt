@@ -1,14 +1,15 @@
 -- A line taken apart: its verb, and fields of hexadecimal digits with a single space before each.
-use Prim.Native.Nat.{ℕ, _+_, _*_, _-_, _/_}
-use mathlib.Core.List.{List, [], _∷_}
+use Prim.Native.Nat.{ℕ, _+_, _*_, _-_, _/_, _%_, _^_}
+use mathlib.Core.List.{List, [], _∷_, _++_}
 use mathlib.Core.Bool.{Bool, true, false, cond, not, _&&_}
 use mathlib.Core.Option.{Option, none, some}
 use lib.Dec.{eqb, ltb, leb}
-use lib.ListN.{length, getD}
+use lib.ListN.{length, getD, replicate}
 use Rattle.octets.specs.Octets.{part, put}
 use Rattle.capture.specs.Hex.{isHex, number, octetsOf}
 use Rattle.line.specs.declared.Field.{Field}
 use Rattle.line.specs.declared.Count.{Count}
+use Rattle.answer.specs.Answer.{spaced, decimal, octets}
 
 -- a line's verb stands before its first space, or is the whole line
 abbrev pub verbIs : List ℕ → List ℕ → Bool
@@ -75,3 +76,27 @@ abbrev pub withOctets : {A : Type 0} → List ℕ → Field → (List ℕ → A)
 withOctets s f said =
     let last = lastField s f 66000 in
     cond (last .«is_bad») none (some (said (octetsIn s f (last .count))))
+
+-- what a line says with a number of n digits behind a field
+unfoldable pub withNumber : {A : Type 0} → List ℕ → Field → ℕ → (Field → A) → A
+withNumber s f n said = said (numberField s f n)
+
+-- what a line says with n octets behind a field
+unfoldable pub withField : {A : Type 0} → List ℕ → Field → ℕ → (Field → List ℕ → A) → A
+withField s f n said = said (octetsField s f n) (octetsIn s f n)
+
+-- the number of a field of 8 digits, of 32 bits
+abbrev pub eight : Field → ℕ
+eight f = f .value % 2 ^ 32
+
+-- the number of a field of 4 digits, of 16 bits
+abbrev pub four : Field → ℕ
+four f = f .value % 2 ^ 16
+
+-- a target of so many octets: AA before the call that writes it
+unfoldable pub targetOf : ℕ → List ℕ
+targetOf room = replicate room 0xAA
+
+-- a call's answer beside its target: a word, LENGTH and the whole TARGET
+abbrev pub targetWords : List ℕ → ℕ → List ℕ → List (List ℕ)
+targetWords done n target = spaced done ++ decimal n ++ octets target

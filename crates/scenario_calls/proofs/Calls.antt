@@ -4,7 +4,7 @@ use mathlib.Core.Path.{_≡_, refl, sym, ap, ap₂, _∙_, subst}
 use mathlib.Core.Bool.{Bool, true, false, cond, _&&_, true≢false}
 use mathlib.Core.List.{List, [], _∷_}
 use mathlib.Core.Option.{Option, none, some}
-use Prim.Native.Nat.{ℕ, _+_, _%_, _^_, _<_, _≤_}
+use Prim.Native.Nat.{ℕ, _+_, _<_, _≤_}
 use native.Mathlib.Omega.{arith}
 use lib.Dec.{ltb, leb}
 use lib.ListN.{length, getD, set, replicate}
@@ -14,9 +14,10 @@ use Rattle.subscription.specs.Record.{freeRecord}
 use Rattle.subscription.specs.Table.{Call}
 use Rattle.line.specs.declared.Field.{Field}
 use Rattle.answer.specs.Answer.{Room, room, putPiece, putAll, Puts, Answers, ascii, word, refused}
+use Rattle.line.proofs.Fields.{first-number, number-read}
 use Rattle.answer.proofs.Rooms.{piece-kept, answered, unanswered}
 use Rattle.answer.proofs.Rooms.{answered-as}
-use Rattle.line.specs.Line.{readTo, numberField, verbIs, ends}
+use Rattle.line.specs.Line.{readTo, numberField, verbIs, ends, withNumber, eight}
 use Rattle.scenario_wire.specs.Wire.{wireAnswer}
 use Rattle.scenario_wire.specs.declared.publications.Held.{Held}
 use Rattle.scenario_wire.specs.declared.publications.Held.the-variants.{Nothing}
@@ -35,10 +36,10 @@ use Rattle.sessions.specs.declared.Tables.{Tables}
 use Rattle.scenario_md.specs.Lines.{askedOf}
 use Rattle.scenario_md.specs.declared.Outcome.{Outcome as MessageOutcome}
 use Rattle.scenario_md.specs.Served as md
-use Rattle.scenario_pd.specs.declared.Slots.{Slots}
+use Rattle.scenario_pd_look.specs.declared.Slots.{Slots}
 use Rattle.scenario_pd.specs.Effect as pd
 use Rattle.scenario_pd.specs.Lines as pdLines
-use Rattle.scenario_pd.specs.Look.{lookAnswer}
+use Rattle.scenario_pd_look.specs.Look.{lookAnswer}
 use Rattle.scenario_calls.specs.declared.State.{State}
 use Rattle.scenario_calls.specs.declared.Outcome.{Outcome}
 use Rattle.scenario_calls.specs.Calls.{atStart, Effect, firstOf, orElse, saying, withLocal, withHeld, withNumbers, withSlots, withTables, countersIn, localEffect, statsEffect, wireEffect, publicationEffect, messageEffect, dataEffect, processEffect, plainEffect, describedEffect, callEffect, effectOf, Leaves, Answered, wordsOf}
@@ -152,36 +153,40 @@ module _ (st : List ℕ) where
   called-kept (some c) t = record { kept = λ n. absurd (some-not-none n) }
 
   lending-kept : (s : List ℕ) (t : Slots) → Kept (pdLines.lending s t st)
-  unfolding pdLines.lending pd.withNumber
+  unfolding pdLines.lending withNumber
   lending-kept s t =
       let slots = numberField s (readTo 0 4) 8 in
       let count = numberField s slots 8 in
       either-kept (ends s count)
-      (either-kept (leb (pd.wordIn slots) 40 && leb (pd.wordIn count) (length st))
-      (same (some (word "ok")) (record { records = t .records; lent = pd.wordIn slots; octets = pd.wordIn count }))
+      (either-kept (leb (eight slots) 40 && leb (eight count) (length st))
+      (same (some (word "ok")) (record { records = t .records; lent = eight slots; octets = eight count }))
       (same none t))
       (same none t)
 
   damaging-kept : (s : List ℕ) (t : Slots) → Kept (pdLines.damaging s t st)
-  unfolding pdLines.damaging pd.withNumber
+  unfolding pdLines.damaging withNumber
   damaging-kept s t =
       let k = numberField s (readTo 0 6) 8 in
       let n = numberField s k 8 in
-      let r = getD (t .records) (pd.wordIn k) freeRecord in
+      let r = getD (t .records) (eight k) freeRecord in
       either-kept (ends s n)
-      (either-kept (ltb (pd.wordIn k) 32 && r .used)
-      (same (some (word "ok")) (pd.withRecords (set (t .records) (pd.wordIn k) (pdLines.withLength (pd.wordIn n) r)) t))
+      (either-kept (ltb (eight k) 32 && r .used)
+      (same (some (word "ok")) (pd.withRecords (set (t .records) (eight k) (pdLines.withLength (eight n) r)) t))
       (same (some (refused 10)) t))
       (same none t)
+
+  own-kept : (s : List ℕ) (t : Slots) → Kept (pdLines.ownEffect s t st)
+  unfolding pdLines.ownEffect
+  own-kept s t =
+      either-kept (verbIs s (ascii "lend")) (lending-kept s t)
+      (either-kept (verbIs s (ascii "damage")) (damaging-kept s t) (same (lookAnswer t st s) t))
 
   other-kept : (s : List ℕ) (t : Slots) → Kept (pdLines.otherEffect s t st)
   unfolding pdLines.otherEffect
   other-kept s t =
       either-kept (verbIs s (ascii "sub")) (called-kept (pdLines.subCall s) t)
       (either-kept (verbIs s (ascii "unsub")) (called-kept (pdLines.unsubCall s) t)
-      (either-kept (verbIs s (ascii "check")) (called-kept (pdLines.checkCall s) t)
-      (either-kept (verbIs s (ascii "lend")) (lending-kept s t)
-      (either-kept (verbIs s (ascii "damage")) (damaging-kept s t) (same (lookAnswer t st s) t)))))
+      (either-kept (verbIs s (ascii "check")) (called-kept (pdLines.checkCall s) t) (own-kept s t)))
 
   store-kept : (counters : TopoCounts) (s : List ℕ) (t : Slots) → Kept (pdLines.effectOf counters s t st)
   store-kept counters s t = either-kept (verbIs s (ascii "pd")) (called-kept (pdLines.pdCall counters s) t) (other-kept s t)
@@ -196,7 +201,7 @@ module _ (x : State) (ds st s : List ℕ) where
   process-stays = record { stays = λ n. (refl, store-kept st (x .local) s (x .slots) .kept n) }
 
   local-stays : Stays (localEffect x ds st s) ds st
-  unfolding localEffect
+  unfolding localEffect withNumber
   local-stays =
       let etb = numberField s (readTo 0 5) 8 in
       let opTrn = numberField s etb 8 in
@@ -258,11 +263,11 @@ module _ (x : State) (ds st s : List ℕ) where
     local-fields : (v : Bool) → ends s g ≡ v → localEffect x ds st s ≡ cond v (saying (some (word "ok")) (withLocal (countersIn f g) x) ds st) (saying none x ds st)
     unfolding localEffect
     local-fields v e =
-        ap (λ (y : Field). cond (ends s (numberField s y 8)) (saying (some (word "ok")) (withLocal (countersIn y (numberField s y 8)) x) ds st) (saying none x ds st)) (sym (e₁ ∙ ap (λ (y : Field). numberField s y 8) e₀))
-        ∙ ap (λ (y : Field). cond (ends s y) (saying (some (word "ok")) (withLocal (countersIn f y) x) ds st) (saying none x ds st)) (sym e₂)
-        ∙ ap (λ (w : Bool). cond w (saying (some (word "ok")) (withLocal (countersIn f g) x) ds st) (saying none x ds st)) e
+        first-number s b (readTo 0 5) f 8 _ e₀ e₁
+        (number-read s f g 8 _ e₂
+        (ap (λ (w : Bool). cond w (saying (some (word "ok")) (withLocal (countersIn f g) x) ds st) (saying none x ds st)) e))
 
-    pub local-said : {at p : ℕ} {o o′ : List ℕ} (m n : ℕ) → ends s g ≡ true → m ≡ f .value % 2 ^ 32 → n ≡ g .value % 2 ^ 32 → Puts (word "ok") at o p o′ → Leaves (localEffect x ds st s) at o (record { state = withLocal (record { «etb_topo_cnt» = m; «op_trn_topo_cnt» = n }) x; at = p }) ds st o′
+    pub local-said : {at p : ℕ} {o o′ : List ℕ} (m n : ℕ) → ends s g ≡ true → m ≡ eight f → n ≡ eight g → Puts (word "ok") at o p o′ → Leaves (localEffect x ds st s) at o (record { state = withLocal (record { «etb_topo_cnt» = m; «op_trn_topo_cnt» = n }) x; at = p }) ds st o′
     local-said m n e i j a =
         in-words {e = saying (some (word "ok")) (withLocal (countersIn f g) x) ds st}
         (record { words = answered a; state = ap₂ (λ (y z : ℕ). withLocal (record { «etb_topo_cnt» = y; «op_trn_topo_cnt» = z }) x) i j; descriptions = refl; store = refl })

@@ -1,5 +1,5 @@
 -- A line's answer, and what it leaves to the next: the state, the description run's memory and the store.
-use Prim.Native.Nat.{ℕ, _%_, _^_}
+use Prim.Native.Nat.{ℕ}
 use mathlib.Core.Path.{_≡_}
 use mathlib.Core.Bool.{cond}
 use mathlib.Core.List.{List, []}
@@ -13,14 +13,14 @@ use Rattle.session.specs.Listener.{freeListener}
 use Rattle.session.specs.Session.{freeSession}
 use Rattle.sessions.specs.declared.Tables.{Tables}
 use Rattle.line.specs.declared.Field.{Field}
-use Rattle.line.specs.Line.{readTo, numberField, verbIs, ends, withEnd}
+use Rattle.line.specs.Line.{readTo, verbIs, ends, withEnd, withNumber, eight}
 use Rattle.answer.specs.Answer.{ascii, word, Puts, Answers}
 use Rattle.scenario_wire.specs.Wire.{wireAnswer}
 use Rattle.scenario_wire.specs.declared.publications.Held.{Held}
 use Rattle.scenario_wire.specs.declared.publications.Held.the-variants.{Nothing}
 use Rattle.scenario_wire.specs.Publications as publications
 use Rattle.scenario_data.specs.Data as description
-use Rattle.scenario_pd.specs.declared.Slots.{Slots}
+use Rattle.scenario_pd_look.specs.declared.Slots.{Slots}
 use Rattle.scenario_pd.specs.Lines as pd
 use Rattle.scenario_md.specs.Lines.{askedOf}
 use Rattle.scenario_md.specs.Served as md
@@ -83,16 +83,16 @@ saying ws x descriptions store = record { words = ws; state = x; descriptions = 
 
 -- the counters that two fields of 8 digits say
 abbrev pub countersIn : Field → Field → TopoCounts
-countersIn etb opTrn = record { «etb_topo_cnt» = etb .value % 2 ^ 32; «op_trn_topo_cnt» = opTrn .value % 2 ^ 32 }
+countersIn etb opTrn = record { «etb_topo_cnt» = eight etb; «op_trn_topo_cnt» = eight opTrn }
 
 -- each kind of line, in a state, with the memory lent for descriptions and the store
 module _ (x : State) (descriptions store : List ℕ) where
   -- `local ETB(8) OPTRN(8)`: `ok`, and the local counters from now on
   unfoldable pub localEffect : List ℕ → Effect
   localEffect s =
-      let etb = numberField s (readTo 0 5) 8 in
-      let opTrn = numberField s etb 8 in
-      cond (ends s opTrn) (saying (some (word "ok")) (withLocal (countersIn etb opTrn) x) descriptions store) (saying none x descriptions store)
+      withNumber s (readTo 0 5) 8
+      (λ etb. withNumber s etb 8
+      (λ opTrn. cond (ends s opTrn) (saying (some (word "ok")) (withLocal (countersIn etb opTrn) x) descriptions store) (saying none x descriptions store)))
 
   -- `stats`
   unfoldable pub statsEffect : List ℕ → Effect

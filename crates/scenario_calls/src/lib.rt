@@ -2,7 +2,7 @@
 
 mod counters;
 
-use scenario_pd::Slots;
+use scenario_pd_look::Slots;
 use scenario_wire::publications;
 use scenario_wire::publications::Held;
 use sessions::Tables;

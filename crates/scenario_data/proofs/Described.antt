@@ -4,11 +4,11 @@ use mathlib.Core.Path.{_≡_, refl, sym, ap, ap₂, _∙_}
 use mathlib.Core.Bool.{Bool, true, false, cond}
 use mathlib.Core.List.{List, [], _∷_, _++_, append-assoc}
 use mathlib.Core.Option.{Option, none, some}
-use Prim.Native.Nat.{ℕ, zero, suc, _+_, _*_, _/_, _%_, _^_, _<_, _≤_}
+use Prim.Native.Nat.{ℕ, zero, suc, _+_, _*_, _/_, _%_, _<_, _≤_}
 use native.Mathlib.Nat.{zero-add}
 use native.Mathlib.Numerals.{add-one}
 use native.Mathlib.Omega.{arith}
-use lib.ListN.{length, getD, set, take, drop, replicate}
+use lib.ListN.{length, getD, set, take, drop}
 use lib.Seq.{drop-cons, drop-drop}
 use lib.Dec.{eqb, leb}
 use borrow.Author.Tests.{leb-true}
@@ -21,12 +21,12 @@ use Rattle.dataset.specs.declared.Converted.{Converted}
 use Rattle.dataset.specs.declared.Converted.the-variants.{Octets, Refused}
 use Rattle.dataset.specs.Walk.{wholeOf, refusalOf, doneOf, Converts}
 use Rattle.line.specs.declared.Field.{Field}
-use Rattle.line.specs.Line.{readTo, numberField, verbIs, withOctets}
+use Rattle.line.specs.Line.{readTo, numberField, verbIs, withOctets, eight, four, targetOf}
 use Rattle.answer.specs.Answer.{ascii, word, Answers}
-use Rattle.line.proofs.Said.{fresh}
+use Rattle.line.proofs.Fields.{first-number, number-read}
 use Rattle.answer.proofs.Rooms.{answered-as, not-answered}
 use Rattle.scenario_data.specs.declared.Outcome.{Outcome}
-use Rattle.scenario_data.specs.Data.{Said, numbersOf, isRun, runSaid, orNone, typesSaid, convertedWords, doneWords, convertWords, targetOf, convertAnswer, keeping, dataSaid, wordsOf, numbersAfter, runAfter, Describes}
+use Rattle.scenario_data.specs.Data.{Said, numbersOf, isRun, runSaid, orNone, typesSaid, convertedWords, doneWords, convertWords, convertAnswer, keeping, dataSaid, wordsOf, numbersAfter, runAfter, Describes}
 
 -- one number more
 numbers-more : (i : ℕ) (s : List ℕ) → numbersOf (suc i) s ≡ numbersOf i s ++ (big (part 4 (4 * i) s) ∷ [])
@@ -66,11 +66,6 @@ whole (suc n) (x ∷ run) h = ap (λ (l : List ℕ). x ∷ l) (whole n run (omeg
 
 pub all-taken : (n : ℕ) (run : List ℕ) → length run < n → take (length run) run ≡ take n run
 all-taken n run h = whole (length run) run (omega arith) ∙ sym (whole n run (omega arith))
-
--- the target of a room
-pub target-of : (t : List ℕ) (k v : ℕ) → t ≡ replicate 65536 0xAA → k ≡ v % 2 ^ 16 → take k t ≡ targetOf (v % 2 ^ 16)
-unfolding targetOf
-target-of t k v e d = fresh 65536 0xAA t k (v % 2 ^ 16) e d (omega arith)
 
 -- what a line leaves
 module _ {x : Option Said} where
@@ -128,12 +123,9 @@ converted-words form done run id before d c target x =
 
 -- the line of a conversion
 module _ (form : Form) (done run s : List ℕ) (b id room : Field) where
-  pub convert-is : b ≡ readTo 0 6 → id ≡ numberField s b 8 → room ≡ numberField s id 4 → convertAnswer form done run s ≡ withOctets s room (convertWords form done run (id .value % 2 ^ 32) (targetOf (room .value % 2 ^ 16)))
+  pub convert-is : b ≡ readTo 0 6 → id ≡ numberField s b 8 → room ≡ numberField s id 4 → convertAnswer form done run s ≡ withOctets s room (convertWords form done run (eight id) (targetOf (four room)))
   unfolding convertAnswer
-  convert-is e1 e2 e3 =
-      let d : id ≡ numberField s (readTo 0 6) 8 = e2 ∙ ap (λ (x : Field). numberField s x 8) e1 in
-      ap (λ (i : Field). withOctets s (numberField s i 4) (convertWords form done run (i .value % 2 ^ 32) (targetOf ((numberField s i 4) .value % 2 ^ 16)))) (sym d)
-      ∙ ap (λ (r : Field). withOctets s r (convertWords form done run (id .value % 2 ^ 32) (targetOf (r .value % 2 ^ 16)))) (sym e3)
+  convert-is e1 e2 e3 = first-number s b (readTo 0 6) id 8 _ e1 e2 (number-read s id room 4 _ e3 refl)
 
 -- a line by its verb
 module _ (numbers : ℕ) (run s : List ℕ) where

@@ -1,19 +1,19 @@
 -- The calls over a description run: what a line says, the words of its answer, and the run after it.
-use Prim.Native.Nat.{ℕ, zero, suc, _/_, _%_, _^_}
+use Prim.Native.Nat.{ℕ, zero, suc, _/_, _%_}
 use mathlib.Core.Path.{_≡_}
-use mathlib.Core.List.{List, [], _∷_, _++_}
+use mathlib.Core.List.{List, [], _∷_}
 use mathlib.Core.Bool.{Bool, cond, _&&_}
 use mathlib.Core.Option.{Option, none, some}
 use lib.Dec.{eqb, leb}
-use lib.ListN.{length, take, drop, replicate}
+use lib.ListN.{length, take, drop}
 use Rattle.octets.specs.Octets.{big, put}
 use Rattle.dataset.specs.declared.Form.{Form}
 use Rattle.dataset.specs.declared.Form.the-variants.{Wire, Host}
 use Rattle.dataset.specs.declared.Converted.{Converted}
 use Rattle.dataset.specs.declared.Converted.the-variants as converted
 use Rattle.dataset.specs.Walk.{wholeOf, refusalOf, doneOf}
-use Rattle.line.specs.Line.{readTo, numberField, verbIs, withOctets}
-use Rattle.answer.specs.Answer.{ascii, spaced, word, decimal, octets, refused, Answers}
+use Rattle.line.specs.Line.{readTo, verbIs, withNumber, withOctets, eight, four, targetOf, targetWords}
+use Rattle.answer.specs.Answer.{ascii, word, refused, Answers}
 use Rattle.scenario_data.specs.declared.Outcome.{Outcome}
 
 -- the words of an answer, how many numbers the run has from then on, and the memory lent for it
@@ -48,12 +48,12 @@ typesSaid run s = orNone (withOctets s (readTo 0 5) (runSaid run))
 
 -- a conversion's answer beside its target: a word, LENGTH and the whole TARGET; or the refusal
 abbrev pub convertedWords : List ℕ → Converted → List ℕ → List (List ℕ)
-convertedWords done (converted.Octets n) target = spaced done ++ decimal n ++ octets target
+convertedWords done (converted.Octets n) target = targetWords done n target
 convertedWords done (converted.Refused r) target = refused r
 
 -- the same of n octets that no check refuses (0); or of the first check that does
 abbrev pub doneWords : List ℕ → ℕ → ℕ → List ℕ → List (List ℕ)
-doneWords done zero n target = spaced done ++ decimal n ++ octets target
+doneWords done zero n target = targetWords done n target
 doneWords done (suc r) n target = refused (suc r)
 
 -- data of a form, the dataset of an id, converted to the other form at the front of a target
@@ -62,16 +62,12 @@ convertWords form done run id before d =
     let w = wholeOf form run id d in
     doneWords done (refusalOf w (length d) (length before)) (length d) (put 0 (doneOf w) before)
 
--- a target of so many octets: AA before the call that writes it
-unfoldable pub targetOf : ℕ → List ℕ
-targetOf room = replicate room 0xAA
-
 -- ID(8) ROOM(4) OCTETS behind a verb of 6 letters
 unfoldable pub convertAnswer : Form → List ℕ → List ℕ → List ℕ → Option (List (List ℕ))
 convertAnswer form done run s =
-    let id = numberField s (readTo 0 6) 8 in
-    let room = numberField s id 4 in
-    withOctets s room (convertWords form done run (id .value % 2 ^ 32) (targetOf (room .value % 2 ^ 16)))
+    withNumber s (readTo 0 6) 8
+    (λ id. withNumber s id 4
+    (λ room. withOctets s room (convertWords form done run (eight id) (targetOf (four room)))))
 
 -- an answer that leaves the run as it was
 abbrev pub keeping : ℕ → List ℕ → Option (List (List ℕ)) → Option Said

@@ -1,5 +1,1 @@
-mod Codes
-mod Shown
-mod Lines
-pub mod Served
-pub mod Begun
+mod Served

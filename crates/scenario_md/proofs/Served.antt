@@ -16,17 +16,17 @@ use Rattle.sessions.specs.declared.Told.{Told}
 use Rattle.sessions.specs.Calls.{meaning, Follows}
 use Rattle.sessions.specs.History.{statisticsAfter}
 use Rattle.sessions.specs.Arriving.{outcomeOf, Receives}
-use Rattle.sessions.specs.Table.{Call, listen, telegram, reply, Answer, step}
+use Rattle.sessions.specs.Table.{Call, listen, unlisten, calling, telegram, reply, confirm, Answer, step}
 use Rattle.scenario_md.specs.declared.Called.{Called}
 use Rattle.scenario_md.specs.declared.Outcome.{Outcome}
-use Rattle.scenario_md.specs.Words.{answerWords, heardWords, slotWords}
+use Rattle.scenario_md_words.specs.Words.{answerWords, heardWords, slotWords}
 use Rattle.scenario_md.specs.Lines.{Asked, calls, looks, userAsked}
 use Rattle.scenario_md.specs.Served.{callWords, statisticsOf, Serves, Answered, Tells}
 
 module _ {t : Tables} {at : ℕ} {before : List ℕ} {r : Called} {after : List ℕ} where
   -- the same line in other words
-  pub asks : {o o′ : Option Asked} → Serves o t at before r after → o ≡ o′ → Serves o′ t at before r after
-  asks x e = subst (λ (p : Option Asked). Serves p t at before r after) e x
+  pub asks : {o o′ : Option Asked} → Serves o t at before r after → o′ ≡ o → Serves o′ t at before r after
+  asks x e = subst (λ (p : Option Asked). Serves p t at before r after) (sym e) x
 
   -- a call that was made, and its answer put
   pub served : (c : Call) (x : Answer) → Puts (callWords c x) at before (r .at) after → x ≡ step c t .answer → r .tables ≡ step c t .after → ((y : Answer) (n : Statistics) → n ≡ statisticsAfter c y n) → Serves (some (calls c)) t at before r after
@@ -48,19 +48,33 @@ unserved t at o {r} e =
     subst (λ (x : Called). Serves none t at o x o) (sym e) (record { words = unanswered at o; tables = refl; statistics = λ n. refl })
 
 -- the same calls, of equal values
-module _ {a a′ b b′ c c′ : ℕ} (x : a ≡ a′) (y : b ≡ b′) where
-  pub same-listen : {u : List ℕ} → c ≡ c′ → some (calls (listen a (record { start = b; end = c }) u)) ≡ some (calls (listen a′ (record { start = b′; end = c′ }) u))
-  same-listen z = cc
+module _ {a a′ : ℕ} (x : a ≡ a′) where
+  pub same-unlisten : some (calls (unlisten a′)) ≡ some (calls (unlisten a))
+  same-unlisten = cc
 
-  pub same-reply : {time : ℕ} → c ≡ c′ → some (calls (reply a b c time)) ≡ some (calls (reply a′ b′ c′ time))
-  same-reply z = cc
+  pub same-confirm : some (calls (confirm a′)) ≡ some (calls (confirm a))
+  same-confirm = cc
 
-pub same-telegram : {a a′ b b′ time : ℕ} {local : TopoCounts} {d : List ℕ} → a ≡ a′ → b ≡ b′ → some (calls (telegram (record { sender = a; destination = b; time = time; local = local }) d)) ≡ some (calls (telegram (record { sender = a′; destination = b′; time = time; local = local }) d))
-same-telegram x y = cc
+  pub same-look : some (looks a′) ≡ some (looks a)
+  same-look = cc
+
+  pub same-calling : {id id′ : List ℕ} {time : ℕ} → id ≡ id′ → some (calls (calling id′ a′ time)) ≡ some (calls (calling id a time))
+  same-calling y = cc
+
+  module _ {b b′ : ℕ} (y : b ≡ b′) where
+    pub same-telegram : {time : ℕ} {local : TopoCounts} {d : List ℕ} → some (calls (telegram (record { sender = a′; destination = b′; time = time; local = local }) d)) ≡ some (calls (telegram (record { sender = a; destination = b; time = time; local = local }) d))
+    same-telegram = cc
+
+    module _ {c c′ : ℕ} (z : c ≡ c′) where
+      pub same-listen : {u u′ : List ℕ} → u ≡ u′ → some (calls (listen a′ (record { start = b′; end = c′ }) u′)) ≡ some (calls (listen a (record { start = b; end = c }) u))
+      same-listen w = cc
+
+      pub same-reply : {time : ℕ} → some (calls (reply a′ b′ c′ time)) ≡ some (calls (reply a b c time))
+      same-reply = cc
 
 module _ {t : Tables} {n : Statistics} {at : ℕ} {before : List ℕ} {after : List ℕ} where
-  pub answered-as : {o o′ : Option Asked} {r : Outcome} → Answered o t n at before r after → o ≡ o′ → Answered o′ t n at before r after
-  answered-as {r = r} x e = subst (λ (p : Option Asked). Answered p t n at before r after) e x
+  pub answered-as : {o o′ : Option Asked} {r : Outcome} → Answered o t n at before r after → o′ ≡ o → Answered o′ t n at before r after
+  answered-as {r = r} x e = subst (λ (p : Option Asked). Answered p t n at before r after) (sym e) x
 
   -- a user's line
   pub uncounted : (s : List ℕ) {c : Called} {r : Outcome} → Serves (userAsked s) t at before c after → r ≡ record { tables = c .tables; statistics = n; at = c .at } → Answered (userAsked s) t n at before r after

@@ -1,13 +1,12 @@
 -- What a line of these verbs asks, field by field.
-use Prim.Native.Nat.{ℕ, _%_, _^_}
+use Prim.Native.Nat.{ℕ}
 use mathlib.Core.Bool.{cond}
 use mathlib.Core.List.{List}
 use mathlib.Core.Option.{Option, none}
 use Rattle.arrival.specs.declared.Arrival.{Arrival}
 use Rattle.topography.specs.declared.TopoCounts.{TopoCounts}
-use Rattle.line.specs.declared.Field.{Field}
 use Rattle.answer.specs.Answer.{ascii}
-use Rattle.line.specs.Line.{verbIs, readTo, numberField, octetsField, octetsIn, withEnd, withOctets}
+use Rattle.line.specs.Line.{verbIs, readTo, withNumber, withField, withEnd, withOctets, eight, four}
 use Rattle.sessions.specs.Table.{Call, listen, unlisten, calling, telegram, reply, confirm, timeCheck}
 
 pub data Asked : Type 0 where
@@ -15,22 +14,6 @@ pub data Asked : Type 0 where
   calls : Call → Asked
   -- what the record of a session slot says
   looks : ℕ → Asked
-
--- what a line says with a number of n digits behind a field
-unfoldable pub withNumber : {A : Type 0} → List ℕ → Field → ℕ → (Field → A) → A
-withNumber s f n said = said (numberField s f n)
-
--- what a line says with n octets behind a field
-unfoldable pub withField : {A : Type 0} → List ℕ → Field → ℕ → (Field → List ℕ → A) → A
-withField s f n said = said (octetsField s f n) (octetsIn s f n)
-
--- the number of a field of 8 digits, of 32 bits
-abbrev pub eight : Field → ℕ
-eight f = f .value % 2 ^ 32
-
--- the number of a field of 4 digits, of 16 bits
-abbrev pub four : Field → ℕ
-four f = f .value % 2 ^ 16
 
 -- `listen COMID(8) START(8) END(8) URI(64)`
 unfoldable pub listenAsked : List ℕ → Option Asked
@@ -86,16 +69,24 @@ checkAsked s = withNumber s (readTo 0 7) 16 (λ time. withEnd s time (calls (tim
 unfoldable pub sessionAsked : List ℕ → Option Asked
 sessionAsked s = withNumber s (readTo 0 7) 8 (λ k. withEnd s k (looks (eight k)))
 
--- the user's verbs
+-- the verbs that look at sessions
+unfoldable pub lookAsked : List ℕ → Option Asked
+lookAsked s =
+    cond (verbIs s (ascii "mdcheck")) (checkAsked s)
+    (cond (verbIs s (ascii "session")) (sessionAsked s) none)
+
+-- .. and those that open, answer and confirm one
+unfoldable pub exchangeAsked : List ℕ → Option Asked
+exchangeAsked s =
+    cond (verbIs s (ascii "call")) (callAsked s)
+    (cond (verbIs s (ascii "reply")) (replyAsked s)
+    (cond (verbIs s (ascii "confirm")) (confirmAsked s) (lookAsked s)))
+
+-- .. and those over listeners: the user's verbs
 unfoldable pub userAsked : List ℕ → Option Asked
 userAsked s =
     cond (verbIs s (ascii "listen")) (listenAsked s)
-    (cond (verbIs s (ascii "unlisten")) (unlistenAsked s)
-    (cond (verbIs s (ascii "call")) (callAsked s)
-    (cond (verbIs s (ascii "reply")) (replyAsked s)
-    (cond (verbIs s (ascii "confirm")) (confirmAsked s)
-    (cond (verbIs s (ascii "mdcheck")) (checkAsked s)
-    (cond (verbIs s (ascii "session")) (sessionAsked s) none))))))
+    (cond (verbIs s (ascii "unlisten")) (unlistenAsked s) (exchangeAsked s))
 
 -- what a line asks; nothing where its verb is none of these, or it is of another form
 unfoldable pub askedOf : TopoCounts → List ℕ → Option Asked

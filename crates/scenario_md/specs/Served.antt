@@ -12,7 +12,7 @@ use Rattle.sessions.specs.History.{statisticsAfter}
 use Rattle.sessions.specs.Table.{Call, listen, unlisten, calling, telegram, reply, confirm, timeCheck, Answer, step}
 use Rattle.scenario_md.specs.declared.Called.{Called}
 use Rattle.scenario_md.specs.declared.Outcome.{Outcome}
-use Rattle.scenario_md.specs.Words.{answerWords, heardWords, slotWords}
+use Rattle.scenario_md_words.specs.Words.{answerWords, heardWords, slotWords}
 use Rattle.scenario_md.specs.Lines.{Asked, calls, looks}
 
 -- a call's answer; a telegram's refusal gives its status

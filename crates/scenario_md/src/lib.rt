@@ -1,6 +1,4 @@
 // The calls over listeners and sessions.
-pub mod show;
-
 use address::SenderRange;
 use arrival::Arrival;
 use sessions::Tables;
@@ -13,7 +11,7 @@ ghost use lib.ListN.{replicate};
 ghost use Rattle.session.specs.Listener.{freeListener};
 ghost use Rattle.session.specs.Session.{freeSession};
 ghost use Rattle.sessions.specs.Table.{telegram};
-ghost use Rattle.scenario_md.specs.Lines.{calls, listenAsked, unlistenAsked, callAsked, mdAsked, replyAsked, confirmAsked, checkAsked, sessionAsked, userAsked, askedOf};
+ghost use Rattle.scenario_md.specs.Lines.{calls, listenAsked, unlistenAsked, callAsked, mdAsked, replyAsked, confirmAsked, checkAsked, sessionAsked, lookAsked, exchangeAsked, userAsked, askedOf};
 ghost use Rattle.scenario_md.specs.Served.{Tells, Serves, Answered};
 
 // The tables after a user's call, and the place behind its answer; 0 where the line is none of these.
@@ -56,7 +54,7 @@ fn tell(told: Told, out: &mut [u8], at: usize) -> Called
     let a = told.answer;
     Called {
         tables: t,
-        at: show::put_answer(out, at, a),
+        at: scenario_md_words::put_answer(out, at, a),
     }
 }
 
@@ -152,7 +150,7 @@ fn check(t: Tables, s: &[u8], out: &mut [u8], at: usize) -> Called
         let codes = checked.codes;
         return Called {
             tables: after,
-            at: show::put_codes(out, at, codes),
+            at: scenario_md_words::put_codes(out, at, codes),
         };
     }
     bad(t)
@@ -166,7 +164,7 @@ fn session(t: Tables, s: &[u8], out: &mut [u8], at: usize) -> Called
     if line::is_end(s, k) {
         return Called {
             tables: t,
-            at: show::put_place(out, at, t, line::word(k) as usize),
+            at: scenario_md_words::put_place(out, at, t, line::word(k) as usize),
         };
     }
     bad(t)
@@ -189,7 +187,7 @@ fn receive(
     Outcome {
         tables: after,
         statistics: counted,
-        at: show::put_heard(out, at, said),
+        at: scenario_md_words::put_heard(out, at, said),
     }
 }
 
@@ -226,16 +224,23 @@ fn md(
     receive(t, statistics, a, &data[..n], out, at)
 }
 
-// A line of one of the user's verbs answered.
-fn user(t: Tables, s: &[u8], out: &mut [u8], at: usize) -> Called
-    ensures { λ r. ⌜ Serves (userAsked (now (s .entry))) t at (now (out .entry)) r (now (out .exit)) ⌝ }
+// A line that looks at sessions answered.
+fn look(t: Tables, s: &[u8], out: &mut [u8], at: usize) -> Called
+    ensures { λ r. ⌜ Serves (lookAsked (now (s .entry))) t at (now (out .entry)) r (now (out .exit)) ⌝ }
 {
-    if line::is_verb(s, b"listen") {
-        return listen(t, s, out, at);
+    if line::is_verb(s, b"mdcheck") {
+        return check(t, s, out, at);
     }
-    if line::is_verb(s, b"unlisten") {
-        return unlisten(t, s, out, at);
+    if line::is_verb(s, b"session") {
+        return session(t, s, out, at);
     }
+    bad(t)
+}
+
+// The same, or one that opens, answers or confirms a session.
+fn exchange(t: Tables, s: &[u8], out: &mut [u8], at: usize) -> Called
+    ensures { λ r. ⌜ Serves (exchangeAsked (now (s .entry))) t at (now (out .entry)) r (now (out .exit)) ⌝ }
+{
     if line::is_verb(s, b"call") {
         return call(t, s, out, at);
     }
@@ -245,13 +250,20 @@ fn user(t: Tables, s: &[u8], out: &mut [u8], at: usize) -> Called
     if line::is_verb(s, b"confirm") {
         return confirm(t, s, out, at);
     }
-    if line::is_verb(s, b"mdcheck") {
-        return check(t, s, out, at);
+    look(t, s, out, at)
+}
+
+// The same, or one over listeners: a line of one of the user's verbs answered.
+fn user(t: Tables, s: &[u8], out: &mut [u8], at: usize) -> Called
+    ensures { λ r. ⌜ Serves (userAsked (now (s .entry))) t at (now (out .entry)) r (now (out .exit)) ⌝ }
+{
+    if line::is_verb(s, b"listen") {
+        return listen(t, s, out, at);
     }
-    if line::is_verb(s, b"session") {
-        return session(t, s, out, at);
+    if line::is_verb(s, b"unlisten") {
+        return unlisten(t, s, out, at);
     }
-    bad(t)
+    exchange(t, s, out, at)
 }
 
 // A line of one of these verbs answered.

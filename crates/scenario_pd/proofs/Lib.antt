@@ -1,3 +1,1 @@
-pub mod Said
-pub mod Shown
-pub mod Turning
+mod Turning

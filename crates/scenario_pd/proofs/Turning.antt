@@ -12,21 +12,22 @@ use Rattle.topography.specs.declared.TopoCounts.{TopoCounts}
 use Rattle.arrival.specs.declared.Arrival.{Arrival}
 use Rattle.statistics.specs.declared.Statistics.{Statistics}
 use Rattle.line.specs.declared.Field.{Field}
-use Rattle.line.specs.declared.Count.{Count}
-use Rattle.line.specs.Line.{readTo, numberField, lastField, octetsIn, ends, withOctets}
+use Rattle.line.specs.Line.{readTo, numberField, ends, withOctets, eight}
 use Rattle.answer.specs.Answer.{room, Puts, Answers}
-use Rattle.answer.proofs.Rooms.{pieces, answered, unanswered}
+use Rattle.line.proofs.Fields.{first-number, number-read}
+use Rattle.answer.proofs.Rooms.{pieces, answered}
 use Rattle.subscription.specs.declared.Subscription.{Subscription}
 use Rattle.subscription.specs.declared.Filter.{Filter}
-use Rattle.subscription.specs.Table.{Call, subscribe, telegram, read, Answer, step}
+use Rattle.subscription.specs.Table.{Call, subscribe, telegram, Answer, step}
 use Rattle.subscriptions.specs.Receive.{recorded}
 use Rattle.lent.specs.Lent.{lentTable, Serves, Receives}
 use Rattle.scenario_pd_words.specs.Words.{answerWords}
-use Rattle.scenario_pd.specs.declared.Slots.{Slots}
+use Rattle.scenario_pd_look.specs.declared.Slots.{Slots}
+use Rattle.scenario_pd_look.specs.Look.{lentOf}
 use Rattle.scenario_pd.specs.declared.Turned.{Turned}
-use Rattle.scenario_pd.specs.Effect.{Effect, withNumber, wordIn, lentOf, withRecords, saying, calling, counting, Turns}
+use Rattle.scenario_pd.specs.Effect.{Effect, withRecords, saying, calling, counting, Turns}
 use Rattle.scenario_pd.specs.Lines.{subscribing, filterIn, subCall, arrivalIn, pdCall}
-use Rattle.scenario_pd.proofs.Said.{taken, dropped, numbered, octets-said, octets-bad}
+use Rattle.scenario_pd_look.proofs.Lent.{taken, dropped}
 
 module _ {at r : ℕ} {o o′ : List ℕ} where
   -- the same effect in other words
@@ -46,13 +47,6 @@ module _ {at r : ℕ} {o o′ : List ℕ} where
         store-after = ap₂ (λ (x y : List ℕ). x ++ y) (s .store-after ∙ ap (λ (l : List ℕ). step c (lentTable (t .lent) (t .records) l) .after .store) f) g;
       }
 
--- reading, of the octets lent
-pub reads-lent : (t : Slots) (store set : List ℕ) (k k′ n : ℕ) → k ≡ k′ → n ≡ min (t .octets) (length store)
-    → answerWords (step (read k set) (lentTable (t .lent) (t .records) (take n store)) .answer) ≡ answerWords (step (read k′ set) (lentOf t store) .answer)
-reads-lent t store set k k′ n e m =
-    ap₂ (λ (j : ℕ) (l : List ℕ). answerWords (step (read j set) (lentTable (t .lent) (t .records) l) .answer)) e
-    (ap (λ (j : ℕ). take j store) m ∙ taken (t .octets) store)
-
 -- a telegram is counted
 pub counted : (a : Arrival) (d : List ℕ) (t : Slots) (store : List ℕ) (n : ℕ) (x : Statistics) {answer : Answer} {rs : List Subscription} {st : List ℕ} {x′ : Statistics} → n ≡ min (t .octets) (length store)
     → Receives a d (t .lent) (t .records) (take n store) x answer rs st x′ → x′ ≡ counting (some (telegram a d)) t store x
@@ -66,64 +60,59 @@ pub unturned : {t : Slots} {store : List ℕ} {at : ℕ} {o : List ℕ} (b : Tur
 unturned {t} {store} {at} {o} b e =
     record { words = record { answers = ap (λ (x : Turned). room (x .at) o) e }; slots-after = ap (λ (x : Turned). x .slots) e; store-after = refl }
 
-pub not-calling : (t : Slots) (store : List ℕ) → calling none t store ≡ saying none t store
-unfolding calling
-not-calling t store = refl
+module _ (t : Slots) (store : List ℕ) {x : Option Call} where
+  -- a line that asks for this call; for none
+  pub by-call : {y : Option Call} {at r : ℕ} {slots : Slots} {store′ o o′ : List ℕ} → x ≡ y → Turns (calling y t store) at o slots store′ r o′ → Turns (calling x t store) at o slots store′ r o′
+  by-call e = by-effect (ap (λ (z : Option Call). calling z t store) e)
 
-pub not-counting : (t : Slots) (store : List ℕ) (x : Statistics) → counting none t store x ≡ x
-unfolding counting
-not-counting t store x = refl
+  uncalled-is : x ≡ none → calling x t store ≡ saying none t store
+  unfolding calling
+  uncalled-is e = ap (λ (z : Option Call). calling z t store) e
+
+  pub uncalled : {at : ℕ} {o : List ℕ} → x ≡ none → (b : Turned) → b ≡ record { slots = t; at = 0 } → Turns (calling x t store) at o (b .slots) store (b .at) o
+  uncalled e b d = by-effect (uncalled-is e) (unturned b d)
+
+  pub uncounted : (n : Statistics) → x ≡ none → n ≡ counting x t store n
+  unfolding counting
+  uncounted n e = sym (ap (λ (z : Option Call). counting z t store n) e)
+
+-- a filter, by its fields
+pub filter-said : (f₁ f₂ f₃ f₄ : Field) {w₁ w₂ w₃ w₄ : ℕ} → w₁ ≡ eight f₁ → w₂ ≡ eight f₂ → w₃ ≡ eight f₃ → w₄ ≡ eight f₄ → record { «com_id» = w₁; senders = record { start = w₂; end = w₃ }; destination = w₄ } ≡ filterIn f₁ f₂ f₃ f₄
+filter-said f₁ f₂ f₃ f₄ e₁ e₂ e₃ e₄ = cc
 
 -- `sub`, by its fields
 module _ (s : List ℕ) (b f₁ f₂ f₃ f₄ f₅ f₆ f₇ : Field) (e₀ : b ≡ readTo 0 3) (e₁ : f₁ ≡ numberField s b 8) (e₂ : f₂ ≡ numberField s f₁ 8) (e₃ : f₃ ≡ numberField s f₂ 8) (e₄ : f₄ ≡ numberField s f₃ 8) (e₅ : f₅ ≡ numberField s f₄ 8) (e₆ : f₆ ≡ numberField s f₅ 1) (e₇ : f₇ ≡ numberField s f₆ 16) where
-  pub sub-fields : subCall s ≡ subscribing s (filterIn f₁ f₂ f₃ f₄) (wordIn f₅) f₆ f₇
+  sub-fields : subCall s ≡ subscribing s (filterIn f₁ f₂ f₃ f₄) (eight f₅) f₆ f₇
   unfolding subCall
   sub-fields =
-      next (readTo 0 3) f₁ 8 (λ f₁. withNumber s f₁ 8 (λ f₂. withNumber s f₂ 8 (λ f₃. withNumber s f₃ 8 (λ f₄. withNumber s f₄ 8 (λ f₅. withNumber s f₅ 1 (λ f₆. withNumber s f₆ 16 (λ f₇. subscribing s (filterIn f₁ f₂ f₃ f₄) (wordIn f₅) f₆ f₇))))))) (e₁ ∙ ap (λ (x : Field). numberField s x 8) e₀)
-      ∙ next f₁ f₂ 8 (λ f₂. withNumber s f₂ 8 (λ f₃. withNumber s f₃ 8 (λ f₄. withNumber s f₄ 8 (λ f₅. withNumber s f₅ 1 (λ f₆. withNumber s f₆ 16 (λ f₇. subscribing s (filterIn f₁ f₂ f₃ f₄) (wordIn f₅) f₆ f₇)))))) e₂
-      ∙ next f₂ f₃ 8 (λ f₃. withNumber s f₃ 8 (λ f₄. withNumber s f₄ 8 (λ f₅. withNumber s f₅ 1 (λ f₆. withNumber s f₆ 16 (λ f₇. subscribing s (filterIn f₁ f₂ f₃ f₄) (wordIn f₅) f₆ f₇))))) e₃
-      ∙ next f₃ f₄ 8 (λ f₄. withNumber s f₄ 8 (λ f₅. withNumber s f₅ 1 (λ f₆. withNumber s f₆ 16 (λ f₇. subscribing s (filterIn f₁ f₂ f₃ f₄) (wordIn f₅) f₆ f₇)))) e₄
-      ∙ next f₄ f₅ 8 (λ f₅. withNumber s f₅ 1 (λ f₆. withNumber s f₆ 16 (λ f₇. subscribing s (filterIn f₁ f₂ f₃ f₄) (wordIn f₅) f₆ f₇))) e₅
-      ∙ next f₅ f₆ 1 (λ f₆. withNumber s f₆ 16 (λ f₇. subscribing s (filterIn f₁ f₂ f₃ f₄) (wordIn f₅) f₆ f₇)) e₆
-      ∙ next f₆ f₇ 16 (λ f₇. subscribing s (filterIn f₁ f₂ f₃ f₄) (wordIn f₅) f₆ f₇) e₇
-    where
-      next : (b f : Field) (n : ℕ) (said : Field → Option Call) → f ≡ numberField s b n → withNumber s b n said ≡ said f
-      next b f n said e = numbered s b f n said e
+      first-number s b (readTo 0 3) f₁ 8 _ e₀ e₁
+      (number-read s f₁ f₂ 8 _ e₂
+      (number-read s f₂ f₃ 8 _ e₃
+      (number-read s f₃ f₄ 8 _ e₄
+      (number-read s f₄ f₅ 8 _ e₅
+      (number-read s f₅ f₆ 1 _ e₆
+      (number-read s f₆ f₇ 16 _ e₇ refl))))))
 
-  pub sub-said : (w₁ w₂ w₃ w₄ w₅ : ℕ) → f₆ .value ≤ 2 → ends s f₇ ≡ true → w₁ ≡ wordIn f₁ → w₂ ≡ wordIn f₂ → w₃ ≡ wordIn f₃ → w₄ ≡ wordIn f₄ → w₅ ≡ wordIn f₅
-      → subCall s ≡ some (subscribe (record { filter = record { «com_id» = w₁; senders = record { start = w₂; end = w₃ }; destination = w₄ }; timeout = w₅; behaviour = f₆ .value }) (f₇ .value))
-  sub-said w₁ w₂ w₃ w₄ w₅ h e q₁ q₂ q₃ q₄ q₅ =
-      rw (q₁, q₂, q₃, q₄, q₅)
-      (sub-fields
-      ∙ ap₂ (λ (x y : Bool). cond x (cond y (some (subscribe (record { filter = filterIn f₁ f₂ f₃ f₄; timeout = wordIn f₅; behaviour = f₆ .value }) (f₇ .value))) none) none) (le-leb (f₆ .value) 2 h) e)
+  pub sub-said : (f : Filter) (w : ℕ) → f₆ .value ≤ 2 → ends s f₇ ≡ true → f ≡ filterIn f₁ f₂ f₃ f₄ → w ≡ eight f₅ → subCall s ≡ some (subscribe (record { filter = f; timeout = w; behaviour = f₆ .value }) (f₇ .value))
+  sub-said f w h e q₁ q₂ =
+      sub-fields
+      ∙ ap₂ (λ (x y : Bool). cond x (cond y (some (subscribe (record { filter = filterIn f₁ f₂ f₃ f₄; timeout = eight f₅; behaviour = f₆ .value }) (f₇ .value))) none) none) (le-leb (f₆ .value) 2 h) e
+      ∙ ap₂ (λ (x : Filter) (y : ℕ). some (subscribe (record { filter = x; timeout = y; behaviour = f₆ .value }) (f₇ .value))) (sym q₁) (sym q₂)
 
   pub sub-other : 2 < f₆ .value → subCall s ≡ none
-  sub-other h = sub-fields ∙ ap (λ (x : Bool). cond x (cond (ends s f₇) (some (subscribe (record { filter = filterIn f₁ f₂ f₃ f₄; timeout = wordIn f₅; behaviour = f₆ .value }) (f₇ .value))) none) none) (lt-leb (f₆ .value) 2 h)
+  sub-other h = sub-fields ∙ ap (λ (x : Bool). cond x (cond (ends s f₇) (some (subscribe (record { filter = filterIn f₁ f₂ f₃ f₄; timeout = eight f₅; behaviour = f₆ .value }) (f₇ .value))) none) none) (lt-leb (f₆ .value) 2 h)
 
   pub sub-bad : ends s f₇ ≡ false → subCall s ≡ none
-  sub-bad e = sub-fields ∙ ap (λ (y : Bool). cond (leb (f₆ .value) 2) (cond y (some (subscribe (record { filter = filterIn f₁ f₂ f₃ f₄; timeout = wordIn f₅; behaviour = f₆ .value }) (f₇ .value))) none) none) e ∙ neither (leb (f₆ .value) 2)
+  sub-bad e = sub-fields ∙ ap (λ (y : Bool). cond (leb (f₆ .value) 2) (cond y (some (subscribe (record { filter = filterIn f₁ f₂ f₃ f₄; timeout = eight f₅; behaviour = f₆ .value }) (f₇ .value))) none) none) e ∙ neither (leb (f₆ .value) 2)
     where
       neither : (x : Bool) → _≡_ {A = Option Call} (cond x none none) none
       neither true = refl
       neither false = refl
 
 -- `pd`, by its fields
-pd-fields : (counters : TopoCounts) (s : List ℕ) (b f₁ f₂ f₃ : Field) → b ≡ readTo 0 2 → f₁ ≡ numberField s b 8 → f₂ ≡ numberField s f₁ 8 → f₃ ≡ numberField s f₂ 16
-    → pdCall counters s ≡ withOctets s f₃ (telegram (arrivalIn counters f₁ f₂ f₃))
+pub pd-fields : (counters : TopoCounts) (s : List ℕ) (b f₁ f₂ f₃ : Field) → b ≡ readTo 0 2 → f₁ ≡ numberField s b 8 → f₂ ≡ numberField s f₁ 8 → f₃ ≡ numberField s f₂ 16 → pdCall counters s ≡ withOctets s f₃ (telegram (arrivalIn counters f₁ f₂ f₃))
 unfolding pdCall
-pd-fields counters s b f₁ f₂ f₃ e₀ e₁ e₂ e₃ =
-    next (readTo 0 2) f₁ 8 (λ f₁. withNumber s f₁ 8 (λ f₂. withNumber s f₂ 16 (λ f₃. withOctets s f₃ (telegram (arrivalIn counters f₁ f₂ f₃))))) (e₁ ∙ ap (λ (x : Field). numberField s x 8) e₀)
-    ∙ next f₁ f₂ 8 (λ f₂. withNumber s f₂ 16 (λ f₃. withOctets s f₃ (telegram (arrivalIn counters f₁ f₂ f₃)))) e₂
-    ∙ next f₂ f₃ 16 (λ f₃. withOctets s f₃ (telegram (arrivalIn counters f₁ f₂ f₃))) e₃
-  where
-    next : (b f : Field) (n : ℕ) (said : Field → Option Call) → f ≡ numberField s b n → withNumber s b n said ≡ said f
-    next b f n said e = numbered s b f n said e
+pd-fields counters s b f₁ f₂ f₃ e₀ e₁ e₂ e₃ = first-number s b (readTo 0 2) f₁ 8 _ e₀ e₁ (number-read s f₁ f₂ 8 _ e₂ (number-read s f₂ f₃ 16 _ e₃ refl))
 
-module _ (counters : TopoCounts) (s : List ℕ) (b f₁ f₂ f₃ : Field) (d : Count) (e₀ : b ≡ readTo 0 2) (e₁ : f₁ ≡ numberField s b 8) (e₂ : f₂ ≡ numberField s f₁ 8) (e₃ : f₃ ≡ numberField s f₂ 16) (q : d ≡ lastField s f₃ 66000) where
-  pub pd-said : (o : List ℕ) (w₁ w₂ : ℕ) → d .«is_bad» ≡ false → o ≡ octetsIn s f₃ (d .count) → w₁ ≡ wordIn f₁ → w₂ ≡ wordIn f₂
-      → pdCall counters s ≡ some (telegram (record { sender = w₁; destination = w₂; time = f₃ .value; local = counters }) o)
-  pd-said o w₁ w₂ h x q₁ q₂ =
-      rw (q₁, q₂) (pd-fields counters s b f₁ f₂ f₃ e₀ e₁ e₂ e₃ ∙ octets-said s f₃ d o (telegram (arrivalIn counters f₁ f₂ f₃)) q h x)
-
-  pub pd-bad : d .«is_bad» ≡ true → pdCall counters s ≡ none
-  pd-bad h = pd-fields counters s b f₁ f₂ f₃ e₀ e₁ e₂ e₃ ∙ octets-bad s f₃ d (telegram (arrivalIn counters f₁ f₂ f₃)) q h
+pub same-telegram : {a a′ b b′ time : ℕ} {local : TopoCounts} {d : List ℕ} → a ≡ a′ → b ≡ b′ → some (telegram (record { sender = a′; destination = b′; time = time; local = local }) d) ≡ some (telegram (record { sender = a; destination = b; time = time; local = local }) d)
+same-telegram x y = cc

@@ -2,30 +2,16 @@
 use mathlib.Core.Path.{_≡_}
 use mathlib.Core.List.{List, _++_}
 use mathlib.Core.Option.{Option, none, some}
-use Prim.Native.Nat.{ℕ, _%_, _^_}
-use lib.ListN.{take, drop}
-use Rattle.line.specs.declared.Field.{Field}
-use Rattle.line.specs.Line.{numberField}
+use Prim.Native.Nat.{ℕ}
+use lib.ListN.{drop}
 use Rattle.answer.specs.Answer.{Answers}
 use Rattle.subscription.specs.declared.Subscription.{Subscription}
-use Rattle.subscription.specs.Table.{Call, Table, step}
+use Rattle.subscription.specs.Table.{Call, step}
 use Rattle.statistics.specs.declared.Statistics.{Statistics}
 use Rattle.subscriptions.specs.Receive.{statisticsAfter}
-use Rattle.lent.specs.Lent.{lentTable}
 use Rattle.scenario_pd_words.specs.Words.{answerWords}
-use Rattle.scenario_pd.specs.declared.Slots.{Slots}
-
--- what is made of a line's field of n digits behind another
-unfoldable pub withNumber : {A : Type 0} → List ℕ → Field → ℕ → (Field → A) → A
-withNumber s before n said = said (numberField s before n)
-
--- the number of 32 bits that a field of 8 digits says
-abbrev pub wordIn : Field → ℕ
-wordIn f = f .value % 2 ^ 32
-
--- what a call is lent: so many slots, from slot 0 on, and so many octets of the store
-abbrev pub lentOf : Slots → List ℕ → Table
-lentOf t store = lentTable (t .lent) (t .records) (take (t .octets) store)
+use Rattle.scenario_pd_look.specs.declared.Slots.{Slots}
+use Rattle.scenario_pd_look.specs.Look.{lentOf}
 
 abbrev pub withRecords : List Subscription → Slots → Slots
 withRecords rs t = record { records = rs; lent = t .lent; octets = t .octets }

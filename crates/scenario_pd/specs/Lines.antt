@@ -10,15 +10,15 @@ use Rattle.topography.specs.declared.TopoCounts.{TopoCounts}
 use Rattle.arrival.specs.declared.Arrival.{Arrival}
 use Rattle.statistics.specs.declared.Statistics.{Statistics}
 use Rattle.line.specs.declared.Field.{Field}
-use Rattle.line.specs.Line.{readTo, verbIs, ends, withEnd, withOctets}
+use Rattle.line.specs.Line.{readTo, verbIs, ends, withEnd, withOctets, withNumber, eight}
 use Rattle.answer.specs.Answer.{ascii, word, refused}
 use Rattle.subscription.specs.declared.Subscription.{Subscription}
 use Rattle.subscription.specs.declared.Filter.{Filter}
 use Rattle.subscription.specs.Record.{freeRecord}
 use Rattle.subscription.specs.Table.{Call, subscribe, unsubscribe, telegram, timeCheck}
-use Rattle.scenario_pd.specs.declared.Slots.{Slots}
-use Rattle.scenario_pd.specs.Effect.{Effect, withNumber, wordIn, withRecords, saying, calling, counting, Turns}
-use Rattle.scenario_pd.specs.Look.{lookAnswer}
+use Rattle.scenario_pd_look.specs.declared.Slots.{Slots}
+use Rattle.scenario_pd.specs.Effect.{Effect, withRecords, saying, calling, counting, Turns}
+use Rattle.scenario_pd_look.specs.Look.{lookAnswer}
 
 -- behaviour 0 zero, 1 keep, 2 substitute; another digit is a bad line
 abbrev pub subscribing : List ℕ → Filter → ℕ → Field → Field → Option Call
@@ -29,7 +29,7 @@ subscribing s f timeout behaviour time =
 
 abbrev pub filterIn : Field → Field → Field → Field → Filter
 filterIn comId start end destination =
-    record { «com_id» = wordIn comId; senders = record { start = wordIn start; end = wordIn end }; destination = wordIn destination }
+    record { «com_id» = eight comId; senders = record { start = eight start; end = eight end }; destination = eight destination }
 
 -- `sub COMID START END DEST TIMEOUT BEHAVIOUR NOW`
 unfoldable pub subCall : List ℕ → Option Call
@@ -41,11 +41,11 @@ subCall s =
     withNumber s destination 8 (λ timeout.
     withNumber s timeout 1 (λ behaviour.
     withNumber s behaviour 16 (λ time.
-    subscribing s (filterIn comId start end destination) (wordIn timeout) behaviour time)))))))
+    subscribing s (filterIn comId start end destination) (eight timeout) behaviour time)))))))
 
 -- `unsub K`
 unfoldable pub unsubCall : List ℕ → Option Call
-unsubCall s = withNumber s (readTo 0 5) 8 (λ k. withEnd s k (unsubscribe (wordIn k)))
+unsubCall s = withNumber s (readTo 0 5) 8 (λ k. withEnd s k (unsubscribe (eight k)))
 
 -- `check NOW`
 unfoldable pub checkCall : List ℕ → Option Call
@@ -53,7 +53,7 @@ checkCall s = withNumber s (readTo 0 5) 16 (λ time. withEnd s time (timeCheck (
 
 abbrev pub arrivalIn : TopoCounts → Field → Field → Field → Arrival
 arrivalIn counters sender destination time =
-    record { sender = wordIn sender; destination = wordIn destination; time = time .value; local = counters }
+    record { sender = eight sender; destination = eight destination; time = time .value; local = counters }
 
 -- `pd SENDER DEST NOW OCTETS`
 unfoldable pub pdCall : TopoCounts → List ℕ → Option Call
@@ -75,7 +75,7 @@ unfoldable pub lending : List ℕ → Slots → List ℕ → Effect
 lending s t store =
     withNumber s (readTo 0 4) 8 (λ slots.
     withNumber s slots 8 (λ count.
-    cond (ends s count) (allotted (wordIn slots) (wordIn count) t store) (saying none t store)))
+    cond (ends s count) (allotted (eight slots) (eight count) t store) (saying none t store)))
 
 -- a record that says another stored length
 abbrev pub withLength : ℕ → Subscription → Subscription
@@ -102,17 +102,22 @@ unfoldable pub damaging : List ℕ → Slots → List ℕ → Effect
 damaging s t store =
     withNumber s (readTo 0 6) 8 (λ k.
     withNumber s k 8 (λ n.
-    cond (ends s n) (damaged (wordIn k) (wordIn n) t store) (saying none t store)))
+    cond (ends s n) (damaged (eight k) (eight n) t store) (saying none t store)))
 
--- by the verb, those that bring no telegram; a bad line for another
+-- by the verb, those that make no call; a bad line for another
+unfoldable pub ownEffect : List ℕ → Slots → List ℕ → Effect
+ownEffect s t store =
+    cond (verbIs s (ascii "lend")) (lending s t store)
+    (cond (verbIs s (ascii "damage")) (damaging s t store)
+    (saying (lookAnswer t store s) t store))
+
+-- .. and those whose call brings no telegram
 unfoldable pub otherEffect : List ℕ → Slots → List ℕ → Effect
 otherEffect s t store =
     cond (verbIs s (ascii "sub")) (calling (subCall s) t store)
     (cond (verbIs s (ascii "unsub")) (calling (unsubCall s) t store)
     (cond (verbIs s (ascii "check")) (calling (checkCall s) t store)
-    (cond (verbIs s (ascii "lend")) (lending s t store)
-    (cond (verbIs s (ascii "damage")) (damaging s t store)
-    (saying (lookAnswer t store s) t store)))))
+    (ownEffect s t store)))
 
 -- .. and `pd`
 abbrev pub effectOf : TopoCounts → List ℕ → Slots → List ℕ → Effect

@@ -1,12 +1,11 @@
-// The calls over subscriptions. The program holds forty records and lends the first of them; the store is lent memory.
-pub mod look;
-
+// The calls over subscriptions.
 use address::SenderRange;
 use arrival::Arrival;
 use lent::Called;
+use line::Field;
+use scenario_pd_look::Slots;
 use statistics::Statistics;
 use subscription::Filter;
-use subscription::Subscription;
 use topography::TopoCounts;
 ghost use mathlib.Core.Path.{_≡_};
 ghost use mathlib.Core.List.{List};
@@ -19,14 +18,7 @@ ghost use Rattle.subscription.specs.Table as table;
 ghost use Rattle.subscriptions.specs.Calls.{meaning};
 ghost use Rattle.scenario_pd_words.specs.Words.{answerWords};
 ghost use Rattle.scenario_pd.specs.Effect.{withRecords, calling, counting, Turns};
-ghost use Rattle.scenario_pd.specs.Lines.{subCall, unsubCall, checkCall, pdCall, lending, allotted, damaging, damaged, otherEffect, Answered};
-
-// The records, and how many of them and how many octets of the store each call is lent.
-pub struct Slots {
-    pub records: [Subscription; 40],
-    pub lent: usize,
-    pub octets: usize,
-}
+ghost use Rattle.scenario_pd.specs.Lines.{filterIn, subCall, unsubCall, checkCall, pdCall, lending, allotted, damaging, damaged, ownEffect, otherEffect, Answered};
 
 // The records after a call, and the place behind its answer; 0 where the line is none of these.
 pub struct Turned {
@@ -100,6 +92,21 @@ fn subscribe(
     turn(t, c, out, at)
 }
 
+// The filter that four fields say.
+fn filter_in(com_id: Field, start: Field, end: Field, destination: Field) -> Filter
+    ensures { λ r. ⌜ r ≡ filterIn com_id start end destination ⌝ }
+{
+    let senders = SenderRange {
+        start: line::word(start),
+        end: line::word(end),
+    };
+    Filter {
+        com_id: line::word(com_id),
+        senders: senders,
+        destination: line::word(destination),
+    }
+}
+
 // `sub COMID START END DEST TIMEOUT BEHAVIOUR NOW`
 fn sub(t: Slots, store: &mut [u8], s: &[u8], out: &mut [u8], at: usize) -> Turned
     ensures { λ r. ⌜ Turns (calling (subCall (now (s .entry))) t (now (store .entry))) at (now (out .entry)) (r .slots) (now (store .exit)) (r .at) (now (out .exit)) ⌝ }
@@ -112,20 +119,11 @@ fn sub(t: Slots, store: &mut [u8], s: &[u8], out: &mut [u8], at: usize) -> Turne
     let behaviour = line::number(s, timeout, 1);
     let time = line::number(s, behaviour, 16);
     if line::is_end(s, time) {
-        let senders = SenderRange {
-            start: line::word(start),
-            end: line::word(end),
-        };
-        let f = Filter {
-            com_id: line::word(com_id),
-            senders: senders,
-            destination: line::word(destination),
-        };
         let b = behaviour.value;
         if b <= 2 {
             return subscribe(
                 t,
-                f,
+                filter_in(com_id, start, end, destination),
                 line::word(timeout),
                 b as u8,
                 time.value,
@@ -309,7 +307,23 @@ fn pd(
     receive(t, statistics, a, &data[..n], store, out, at)
 }
 
-// A line of a verb that brings no telegram answered.
+// A line that makes no call answered.
+fn own(t: Slots, store: &[u8], s: &[u8], out: &mut [u8], at: usize) -> Turned
+    ensures { λ r. ⌜ Turns (ownEffect (now (s .entry)) t (now (store .entry))) at (now (out .entry)) (r .slots) (now (store .entry)) (r .at) (now (out .exit)) ⌝ }
+{
+    if line::is_verb(s, b"lend") {
+        return lend(t, store, s, out, at);
+    }
+    if line::is_verb(s, b"damage") {
+        return damage(t, s, out, at);
+    }
+    Turned {
+        slots: t,
+        at: scenario_pd_look::answer(t, store, s, out, at),
+    }
+}
+
+// The same, or one whose call brings no telegram.
 fn other(t: Slots, store: &mut [u8], s: &[u8], out: &mut [u8], at: usize) -> Turned
     ensures { λ r. ⌜ Turns (otherEffect (now (s .entry)) t (now (store .entry))) at (now (out .entry)) (r .slots) (now (store .exit)) (r .at) (now (out .exit)) ⌝ }
 {
@@ -322,16 +336,7 @@ fn other(t: Slots, store: &mut [u8], s: &[u8], out: &mut [u8], at: usize) -> Tur
     if line::is_verb(s, b"check") {
         return check(t, store, s, out, at);
     }
-    if line::is_verb(s, b"lend") {
-        return lend(t, store, s, out, at);
-    }
-    if line::is_verb(s, b"damage") {
-        return damage(t, s, out, at);
-    }
-    Turned {
-        slots: t,
-        at: look::answer(t, store, s, out, at),
-    }
+    own(t, store, s, out, at)
 }
 
 // A line of one of these verbs answered.

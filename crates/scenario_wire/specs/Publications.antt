@@ -9,9 +9,9 @@ use Rattle.refusal.specs.Refusal.{firstOf, after}
 use Rattle.pd.specs.Pd.{frameOf}
 use Rattle.publication.specs.declared.Publication.{Publication}
 use Rattle.publication.specs.Publication.{madeOf, sendChecks, sentAt}
-use Rattle.line.specs.Line.{readTo, verbIs, withOctets, withEnd}
+use Rattle.line.specs.Line.{readTo, verbIs, withNumber, withOctets, withEnd, eight, four, targetOf}
 use Rattle.answer.specs.Answer.{ascii, word, Answers}
-use Rattle.scenario_wire.specs.Wire.{field, value8, value4, pdFields, targetOf, wroteWords}
+use Rattle.scenario_wire.specs.Wire.{pdFields, wroteWords}
 use Rattle.scenario_wire.specs.declared.publications.Held.{Held}
 use Rattle.scenario_wire.specs.declared.publications.Held.the-variants.{Nothing, Made}
 use Rattle.scenario_wire.specs.declared.publications.Outcome.{Outcome}
@@ -25,8 +25,8 @@ pub record Said : Type 0 where
 unfoldable pub pubSaid : List ℕ → Option Said
 pubSaid s =
     let f = pdFields s (readTo 0 3) in
-    let cycle = field s (f .last) 8 in
-    withEnd s cycle (record { words = word "ok"; held = Made (madeOf (f .header) (value8 cycle)) })
+    withNumber s (f .last) 8
+    (λ cycle. withEnd s cycle (record { words = word "ok"; held = Made (madeOf (f .header) (eight cycle)) }))
 
 -- a publication sent at a time into a target, refusal being the first of its checks that is given, or 0
 unfoldable pub sentSaid : Publication → ℕ → List ℕ → List ℕ → Said
@@ -41,9 +41,9 @@ sentSaid p time before d =
 unfoldable pub sendSaid : Held → List ℕ → Option Said
 sendSaid Nothing s = none
 sendSaid (Made p) s =
-    let time = field s (readTo 0 4) 16 in
-    let room = field s time 4 in
-    withOctets s room (sentSaid p (time .value) (targetOf (value4 room)))
+    withNumber s (readTo 0 4) 16
+    (λ time. withNumber s time 4
+    (λ room. withOctets s room (sentSaid p (time .value) (targetOf (four room)))))
 
 -- a line of these verbs
 unfoldable pub publicationSaid : Held → List ℕ → Option Said

@@ -8,12 +8,10 @@ use md::MdTaken;
 use pd::PdHeader;
 use pd::PdTaken;
 use telegram::Common;
-use telegram::Written;
 ghost use mathlib.Core.Path.{_≡_};
 ghost use Rattle.answer.specs.Answer.{Puts, Answers};
-ghost use Rattle.scenario_wire.specs.Wire.{commonFields, pdFields, commonWords, pdWords, sessionWords, mdWords, pdtakeWords, mdtakeWords};
-ghost use Rattle.scenario_wire.specs.Wire.{writtenWords, pdWroteWords, mdWroteWords};
-ghost use Rattle.scenario_wire.specs.Wire.{crcAnswer, pdtakeAnswer, mdtakeAnswer, pdwriteAnswer, mdwriteAnswer, wireAnswer};
+ghost use Rattle.scenario_wire.specs.Wire.{commonFields, pdFields, pdtakeWords, mdtakeWords, pdWroteWords, mdWroteWords, crcWords};
+ghost use Rattle.scenario_wire.specs.Wire.{crcAnswer, pdtakeAnswer, mdtakeAnswer, pdwriteAnswer, mdwriteAnswer, writeAnswer, wireAnswer};
 
 // Header fields that were read, and the last of them.
 pub struct CommonFields {
@@ -69,65 +67,11 @@ pub fn pd_fields(s: &[u8], counter: Field) -> PdFields
     }
 }
 
-// SEQ VERSION TYPE COMID ETB OPTRN LENGTH
-fn put_common(out: &mut [u8], at: usize, c: Common) -> usize
-    ensures { λ r. ⌜ Puts (commonWords c) at (now (out .entry)) r (now (out .exit)) ⌝ }
+fn put_crc(d: &[u8], out: &mut [u8], at: usize) -> usize
+    ensures { λ r. ⌜ Puts (crcWords (now (d .entry))) at (now (out .entry)) r (now (out .exit)) ⌝ }
 {
-    let p = answer::number8(out, at, c.sequence_counter);
-    let p = answer::number4(out, p, c.protocol_version);
-    let p = answer::number4(out, p, c.msg_type);
-    let p = answer::number8(out, p, c.com_id);
-    let p = answer::number8(out, p, c.etb_topo_cnt);
-    let p = answer::number8(out, p, c.op_trn_topo_cnt);
-    answer::number8(out, p, c.dataset_length)
-}
-
-// `header` and the fields of a PD header
-fn put_pd(out: &mut [u8], at: usize, h: PdHeader) -> usize
-    ensures { λ r. ⌜ Puts (pdWords h) at (now (out .entry)) r (now (out .exit)) ⌝ }
-{
-    let c = h.common;
-    let p = answer::word(out, at, b"header");
-    let p = put_common(out, p, c);
-    let p = answer::number8(out, p, h.reserved);
-    let p = answer::number8(out, p, h.reply_com_id);
-    answer::number8(out, p, h.reply_ip_address)
-}
-
-// STATUS ID TIMEOUT SRCURI DSTURI; identifier and URIs stand in the datagram
-fn put_session(out: &mut [u8], at: usize, h: MdHeader, d: &[u8]) -> usize
-    ensures { λ r. ⌜ Puts (sessionWords h (now (d .entry))) at (now (out .entry)) r (now (out .exit)) ⌝ }
-{
-    let id = md::session_id(d);
-    let p = answer::number8(out, at, octets::to_unsigned(h.reply_status));
-    let p = answer::octets(out, p, &id);
-    let p = answer::number8(out, p, h.reply_timeout);
-    let p = answer::octets(out, p, md::source_uri(d));
-    answer::octets(out, p, md::destination_uri(d))
-}
-
-// `header` and the fields of an MD header
-fn put_md(out: &mut [u8], at: usize, h: MdHeader, d: &[u8]) -> usize
-    ensures { λ r. ⌜ Puts (mdWords h (now (d .entry))) at (now (out .entry)) r (now (out .exit)) ⌝ }
-{
-    let c = h.common;
-    let p = answer::word(out, at, b"header");
-    let p = put_common(out, p, c);
-    put_session(out, p, h, d)
-}
-
-// How many octets were written and the whole target, or the refusal.
-pub fn put_written(out: &mut [u8], at: usize, done: &[u8], w: Written, target: &[u8]) -> usize
-    ensures { λ r. ⌜ Puts (writtenWords (now (done .entry)) w (now (target .entry))) at (now (out .entry)) r (now (out .exit)) ⌝ }
-{
-    match w {
-        Written::Octets(n) => {
-            let p = answer::word(out, at, done);
-            let p = answer::decimal(out, p, n as u64);
-            answer::octets(out, p, target)
-        }
-        Written::Refused(r) => answer::refused(out, at, r),
-    }
+    let p = answer::word(out, at, b"crc");
+    answer::number8(out, p, fcs::frame_check(d))
 }
 
 // `crc OCTETS`
@@ -140,15 +84,14 @@ fn crc(s: &[u8], out: &mut [u8], at: usize) -> usize
         return 0;
     }
     let n = d.count;
-    let p = answer::word(out, at, b"crc");
-    answer::number8(out, p, fcs::frame_check(&data[..n]))
+    put_crc(&data[..n], out, at)
 }
 
 fn take_pd(d: &[u8], out: &mut [u8], at: usize) -> usize
     ensures { λ r. ⌜ Puts (pdtakeWords (now (d .entry))) at (now (out .entry)) r (now (out .exit)) ⌝ }
 {
     match pd::take_pd(d) {
-        PdTaken::Header(h) => put_pd(out, at, h),
+        PdTaken::Header(h) => scenario_wire_words::put_pd(out, at, h),
         PdTaken::Refused(r) => answer::refused(out, at, r),
     }
 }
@@ -170,7 +113,7 @@ fn take_md(d: &[u8], out: &mut [u8], at: usize) -> usize
     ensures { λ r. ⌜ Puts (mdtakeWords (now (d .entry))) at (now (out .entry)) r (now (out .exit)) ⌝ }
 {
     match md::take_md(d) {
-        MdTaken::Header(h) => put_md(out, at, h, d),
+        MdTaken::Header(h) => scenario_wire_words::put_md(out, at, h, d),
         MdTaken::Refused(r) => answer::refused(out, at, r),
     }
 }
@@ -192,7 +135,7 @@ fn write_pd(h: PdHeader, dataset: &[u8], target: &mut [u8], out: &mut [u8], at: 
     ensures { λ r. ⌜ Puts (pdWroteWords h (now (target .entry)) (now (dataset .entry))) at (now (out .entry)) r (now (out .exit)) ⌝ }
 {
     let w = pd::write_pd(h, dataset, target);
-    put_written(out, at, b"wrote", w, target)
+    scenario_wire_words::put_written(out, at, b"wrote", w, target)
 }
 
 // `pdwrite SEQ VERSION TYPE COMID ETB OPTRN RESERVED REPLYCOMID REPLYIP ROOM OCTETS`
@@ -226,7 +169,7 @@ fn write_md(
     ensures { λ r. ⌜ Puts (mdWroteWords h (now (id .entry)) (now (source .entry)) (now (destination .entry)) (now (target .entry)) (now (dataset .entry))) at (now (out .entry)) r (now (out .exit)) ⌝ }
 {
     let w = md::write_md(h, id, source, destination, dataset, target);
-    put_written(out, at, b"wrote", w, target)
+    scenario_wire_words::put_written(out, at, b"wrote", w, target)
 }
 
 // `mdwrite SEQ VERSION TYPE COMID ETB OPTRN STATUS ID TIMEOUT SRCURI DSTURI ROOM OCTETS`
@@ -267,6 +210,19 @@ fn md_write(s: &[u8], out: &mut [u8], at: usize) -> usize
     )
 }
 
+// A line that writes a telegram answered.
+fn write(s: &[u8], out: &mut [u8], at: usize) -> usize
+    ensures { λ r. ⌜ Answers (writeAnswer (now (s .entry))) at (now (out .entry)) r (now (out .exit)) ⌝ }
+{
+    if line::is_verb(s, b"pdwrite") {
+        return pd_write(s, out, at);
+    }
+    if line::is_verb(s, b"mdwrite") {
+        return md_write(s, out, at);
+    }
+    0
+}
+
 // A line of one of these verbs answered.
 pub fn answer(s: &[u8], out: &mut [u8], at: usize) -> usize
     ensures { λ r. ⌜ Answers (wireAnswer (now (s .entry))) at (now (out .entry)) r (now (out .exit)) ⌝ }
@@ -277,14 +233,8 @@ pub fn answer(s: &[u8], out: &mut [u8], at: usize) -> usize
     if line::is_verb(s, b"pdtake") {
         return pd_take(s, out, at);
     }
-    if line::is_verb(s, b"pdwrite") {
-        return pd_write(s, out, at);
-    }
     if line::is_verb(s, b"mdtake") {
         return md_take(s, out, at);
     }
-    if line::is_verb(s, b"mdwrite") {
-        return md_write(s, out, at);
-    }
-    0
+    write(s, out, at)
 }

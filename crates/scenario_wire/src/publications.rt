@@ -47,7 +47,7 @@ fn send_into(
     let w = sent.answer;
     Outcome {
         held: Held::Made(after),
-        at: crate::put_written(out, at, b"sent", w, target),
+        at: scenario_wire_words::put_written(out, at, b"sent", w, target),
     }
 }
 

@@ -1,8 +1,8 @@
 -- The verb is one of these, or another.
 use borrow.Author.Needs.{needs}
 use mathlib.Core.Path.{refl, sym, _∙_}
+use Rattle.line.proofs.Fields.{chosen, passed}
 use Rattle.scenario_md.specs.Lines.{askedOf}
-use Rattle.scenario_md.proofs.Lines.{chosen, passed}
 use Rattle.scenario_md.proofs.Served.{answered-as, uncounted}
 use Rattle.scenario_md.proofs.answer.Statement.{statement}
 use Rattle.scenario_md.proofs.answer.Tie as tie

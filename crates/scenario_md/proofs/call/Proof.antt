@@ -3,9 +3,9 @@ use borrow.Author.Needs.{needs}
 use mathlib.Core.Path.{_≡_, refl, sym, _∙_}
 use mathlib.Core.Bool.{true, false}
 use Rattle.line.specs.Line.{readTo, ends}
+use Rattle.line.proofs.Fields.{end-read, ended, first-octets, number-before, number-read, octets-in, unended}
 use Rattle.scenario_md.specs.Lines.{callAsked}
-use Rattle.scenario_md.proofs.Lines.{ended, number-read, octets-left, octets-read, read-before, read-last, unended}
-use Rattle.scenario_md.proofs.Served.{asks, told, unserved}
+use Rattle.scenario_md.proofs.Served.{asks, told, unserved, same-calling}
 use Rattle.scenario_md.proofs.call.Statement.{statement}
 use Rattle.scenario_md.proofs.call.Tie as tie
 
@@ -49,10 +49,10 @@ returns c =
     let f3 = c .before .before .before .before .before .before .before .before .number2 in
     let e : ends s (f3 .result) ≡ true = sym (c .before .before .before .before .before .before .before .is-end .ensures) ∙ c .before .before .before .before .before .before .if1 .taken in
     asks (told (c .before .before .before .before .call .ensures) (c .before .before .tell .ensures) (λ x. refl) (λ x n. refl))
-    (octets-read s (b .result) (readTo 0 4) (f1 .result) 16 (b .ensures) _ _ _ (f1 .ensures .0) (read-before s (f1 .result) (f2 .result) 8 (f2 .ensures) (read-before s (f2 .result) (f3 .result) 16 (f3 .ensures) (read-last s (f3 .result) e))) (f1 .ensures .1)
-    (number-read s (f1 .result) (f1 .result) (f2 .result) 8 refl _ (f2 .ensures)
-    (number-read s (f2 .result) (f2 .result) (f3 .result) 16 refl _ (f3 .ensures)
-    (ended s (f3 .result) _ e (cc (c .before .before .before .before .before .word .ensures))))))
+    (first-octets s (b .result) (readTo 0 4) (f1 .result) 16 _ (b .ensures) (f1 .ensures .0)
+    (number-read s (f1 .result) (f2 .result) 8 _ (f2 .ensures)
+    (number-read s (f2 .result) (f3 .result) 16 _ (f3 .ensures)
+    (ended s (f3 .result) _ e (same-calling (c .before .before .before .before .before .word .ensures) (octets-in s (b .result) (f1 .result) 16 _ _ (number-before s (f1 .result) (f2 .result) 8 (f2 .ensures) (number-before s (f2 .result) (f3 .result) 16 (f3 .ensures) (end-read s (f3 .result) e))) (f1 .ensures .1)))))))
 
 bad-requires : tie.Need-bad-requires
 bad-requires c κs = search needs
@@ -67,9 +67,9 @@ returns-2 c =
     let f3 = c .before .before .before .number2 in
     let e : ends s (f3 .result) ≡ false = sym (c .before .before .is-end .ensures) ∙ c .before .if1 .left in
     asks (unserved (c .before .before .before .before .before .before .before .before .before .before .before .args .t) (c .before .before .before .before .before .before .before .before .before .before .before .args .at) (c .before .before .before .before .before .before .before .before .before .before .before .args .out .now) (c .bad .ensures))
-    (octets-left s (b .result) (readTo 0 4) (f1 .result) 16 (b .ensures) _ (f1 .ensures .0)
-    (number-read s (f1 .result) (f1 .result) (f2 .result) 8 refl _ (f2 .ensures)
-    (number-read s (f2 .result) (f2 .result) (f3 .result) 16 refl _ (f3 .ensures)
+    (first-octets s (b .result) (readTo 0 4) (f1 .result) 16 _ (b .ensures) (f1 .ensures .0)
+    (number-read s (f1 .result) (f2 .result) 8 _ (f2 .ensures)
+    (number-read s (f2 .result) (f3 .result) 16 _ (f3 .ensures)
     (unended s (f3 .result) _ e))))
 
 pub call-spec : {M : Type 1} → statement M

@@ -3,9 +3,9 @@ use borrow.Author.Needs.{needs}
 use mathlib.Core.Path.{_≡_, refl, sym, _∙_}
 use mathlib.Core.Bool.{true, false}
 use Rattle.line.specs.Line.{readTo, ends}
+use Rattle.line.proofs.Fields.{ended, first-number, unended}
 use Rattle.sessions.specs.Table.{timeCheck, codes}
 use Rattle.scenario_md.specs.Lines.{checkAsked}
-use Rattle.scenario_md.proofs.Lines.{ended, number-read, unended}
 use Rattle.scenario_md.proofs.Served.{asks, served, unserved}
 use Rattle.scenario_md.proofs.check.Statement.{statement}
 use Rattle.scenario_md.proofs.check.Tie as tie
@@ -36,7 +36,7 @@ returns c =
     let f1 = c .before .before .before .before .before .before .before .before .before .number in
     let e : ends s (f1 .result) ≡ true = sym (c .before .before .before .before .before .before .before .before .is-end .ensures) ∙ c .before .before .before .before .before .before .before .if1 .taken in
     asks (served (timeCheck (f1 .result .value)) (codes (c .before .before .before .before .before .before .time-check .result .codes)) (c .before .before .put-codes .ensures) (c .before .before .before .before .before .before .time-check .ensures .answers) (c .before .before .before .before .before .before .time-check .ensures .leaves) (λ x n. refl))
-    (number-read s (b .result) (readTo 0 7) (f1 .result) 16 (b .ensures) _ (f1 .ensures)
+    (first-number s (b .result) (readTo 0 7) (f1 .result) 16 _ (b .ensures) (f1 .ensures)
     (ended s (f1 .result) _ e refl))
 
 bad-requires : tie.Need-bad-requires
@@ -50,7 +50,7 @@ returns-2 c =
     let f1 = c .before .before .before .number in
     let e : ends s (f1 .result) ≡ false = sym (c .before .before .is-end .ensures) ∙ c .before .if1 .left in
     asks (unserved (c .before .before .before .before .before .before .before .args .t) (c .before .before .before .before .before .before .before .args .at) (c .before .before .before .before .before .before .before .args .out .now) (c .bad .ensures))
-    (number-read s (b .result) (readTo 0 7) (f1 .result) 16 (b .ensures) _ (f1 .ensures)
+    (first-number s (b .result) (readTo 0 7) (f1 .result) 16 _ (b .ensures) (f1 .ensures)
     (unended s (f1 .result) _ e))
 
 pub check-spec : {M : Type 1} → statement M

@@ -3,9 +3,9 @@ use borrow.Author.Needs.{needs}
 use mathlib.Core.Path.{_≡_, refl, sym, _∙_}
 use mathlib.Core.Bool.{true, false}
 use Rattle.line.specs.Line.{readTo, ends}
+use Rattle.line.proofs.Fields.{ended, first-number, number-read, unended}
 use Rattle.scenario_md.specs.Lines.{confirmAsked}
-use Rattle.scenario_md.proofs.Lines.{ended, number-read, unended}
-use Rattle.scenario_md.proofs.Served.{asks, told, unserved}
+use Rattle.scenario_md.proofs.Served.{asks, told, unserved, same-confirm}
 use Rattle.scenario_md.proofs.confirm.Statement.{statement}
 use Rattle.scenario_md.proofs.confirm.Tie as tie
 
@@ -45,9 +45,9 @@ returns c =
     let f2 = c .before .before .before .before .before .before .before .before .number2 in
     let e : ends s (f2 .result) ≡ true = sym (c .before .before .before .before .before .before .before .is-end .ensures) ∙ c .before .before .before .before .before .before .if1 .taken in
     asks (told (c .before .before .before .before .confirm .ensures) (c .before .before .tell .ensures) (λ x. refl) (λ x n. refl))
-    (number-read s (b .result) (readTo 0 7) (f1 .result) 8 (b .ensures) _ (f1 .ensures)
-    (number-read s (f1 .result) (f1 .result) (f2 .result) 16 refl _ (f2 .ensures)
-    (ended s (f2 .result) _ e (cc (c .before .before .before .before .before .word .ensures)))))
+    (first-number s (b .result) (readTo 0 7) (f1 .result) 8 _ (b .ensures) (f1 .ensures)
+    (number-read s (f1 .result) (f2 .result) 16 _ (f2 .ensures)
+    (ended s (f2 .result) _ e (same-confirm (c .before .before .before .before .before .word .ensures)))))
 
 bad-requires : tie.Need-bad-requires
 bad-requires c κs = search needs
@@ -61,8 +61,8 @@ returns-2 c =
     let f2 = c .before .before .before .number2 in
     let e : ends s (f2 .result) ≡ false = sym (c .before .before .is-end .ensures) ∙ c .before .if1 .left in
     asks (unserved (c .before .before .before .before .before .before .before .before .args .t) (c .before .before .before .before .before .before .before .before .args .at) (c .before .before .before .before .before .before .before .before .args .out .now) (c .bad .ensures))
-    (number-read s (b .result) (readTo 0 7) (f1 .result) 8 (b .ensures) _ (f1 .ensures)
-    (number-read s (f1 .result) (f1 .result) (f2 .result) 16 refl _ (f2 .ensures)
+    (first-number s (b .result) (readTo 0 7) (f1 .result) 8 _ (b .ensures) (f1 .ensures)
+    (number-read s (f1 .result) (f2 .result) 16 _ (f2 .ensures)
     (unended s (f2 .result) _ e)))
 
 pub confirm-spec : {M : Type 1} → statement M

@@ -3,8 +3,8 @@ use borrow.Author.Needs.{needs}
 use mathlib.Core.Path.{_≡_, refl, sym, _∙_}
 use mathlib.Core.Bool.{true, false}
 use Rattle.line.specs.Line.{readTo, ends}
+use Rattle.line.proofs.Fields.{end-read, ended, first-number, number-read, octets-in, octets-read, unended}
 use Rattle.scenario_md.specs.Lines.{listenAsked}
-use Rattle.scenario_md.proofs.Lines.{ended, number-read, octets-left, octets-read, read-last, unended}
 use Rattle.scenario_md.proofs.Served.{asks, told, unserved, same-listen}
 use Rattle.scenario_md.proofs.listen.Statement.{statement}
 use Rattle.scenario_md.proofs.listen.Tie as tie
@@ -59,11 +59,11 @@ returns c =
     let f4 = c .before .before .before .before .before .before .before .before .before .before .before .octets-field in
     let e : ends s (f4 .result) ≡ true = sym (c .before .before .before .before .before .before .before .before .before .is-end .ensures) ∙ c .before .before .before .before .before .before .before .before .if1 .taken in
     asks (told (c .before .before .before .before .listen .ensures) (c .before .before .tell .ensures) (λ x. refl) (λ x n. refl))
-    (number-read s (b .result) (readTo 0 6) (f1 .result) 8 (b .ensures) _ (f1 .ensures)
-    (number-read s (f1 .result) (f1 .result) (f2 .result) 8 refl _ (f2 .ensures)
-    (number-read s (f2 .result) (f2 .result) (f3 .result) 8 refl _ (f3 .ensures)
-    (octets-read s (f3 .result) (f3 .result) (f4 .result) 32 refl _ _ _ (f4 .ensures .0) (read-last s (f4 .result) e) (f4 .ensures .1)
-    (ended s (f4 .result) _ e (same-listen (c .before .before .before .before .before .word3 .ensures) (c .before .before .before .before .before .before .before .word .ensures) (c .before .before .before .before .before .before .word2 .ensures)))))))
+    (first-number s (b .result) (readTo 0 6) (f1 .result) 8 _ (b .ensures) (f1 .ensures)
+    (number-read s (f1 .result) (f2 .result) 8 _ (f2 .ensures)
+    (number-read s (f2 .result) (f3 .result) 8 _ (f3 .ensures)
+    (octets-read s (f3 .result) (f4 .result) 32 _ (f4 .ensures .0)
+    (ended s (f4 .result) _ e (same-listen (c .before .before .before .before .before .word3 .ensures) (c .before .before .before .before .before .before .before .word .ensures) (c .before .before .before .before .before .before .word2 .ensures) (octets-in s (f3 .result) (f4 .result) 32 _ _ (end-read s (f4 .result) e) (f4 .ensures .1))))))))
 
 bad-requires : tie.Need-bad-requires
 bad-requires c κs = search needs
@@ -79,10 +79,10 @@ returns-2 c =
     let f4 = c .before .before .before .before .octets-field in
     let e : ends s (f4 .result) ≡ false = sym (c .before .before .is-end .ensures) ∙ c .before .if1 .left in
     asks (unserved (c .before .before .before .before .before .before .before .before .before .before .before .before .args .t) (c .before .before .before .before .before .before .before .before .before .before .before .before .args .at) (c .before .before .before .before .before .before .before .before .before .before .before .before .args .out .now) (c .bad .ensures))
-    (number-read s (b .result) (readTo 0 6) (f1 .result) 8 (b .ensures) _ (f1 .ensures)
-    (number-read s (f1 .result) (f1 .result) (f2 .result) 8 refl _ (f2 .ensures)
-    (number-read s (f2 .result) (f2 .result) (f3 .result) 8 refl _ (f3 .ensures)
-    (octets-left s (f3 .result) (f3 .result) (f4 .result) 32 refl _ (f4 .ensures .0)
+    (first-number s (b .result) (readTo 0 6) (f1 .result) 8 _ (b .ensures) (f1 .ensures)
+    (number-read s (f1 .result) (f2 .result) 8 _ (f2 .ensures)
+    (number-read s (f2 .result) (f3 .result) 8 _ (f3 .ensures)
+    (octets-read s (f3 .result) (f4 .result) 32 _ (f4 .ensures .0)
     (unended s (f4 .result) _ e)))))
 
 pub listen-spec : {M : Type 1} → statement M

@@ -1,13 +1,13 @@
 -- The fields are read one after the other, then the datagram; or the line asks nothing.
 use borrow.Author.Needs.{needs}
-use mathlib.Core.Path.{refl, sym}
+use mathlib.Core.Path.{_∙_}
 use mathlib.Core.List.{List}
 use Prim.Native.Nat.{ℕ}
 use Rattle.sessions.specs.Table.{telegram}
-use lib.ListN.{length}
-use Rattle.line.specs.Line.{readTo}
-use Rattle.scenario_md.specs.Lines.{Asked, calls, eight, mdAsked}
-use Rattle.scenario_md.proofs.Lines.{number-read, last-read, last-bad}
+use Rattle.line.specs.Line.{readTo, eight}
+use Rattle.line.proofs.Fields.{first-number, number-read}
+use Rattle.line.proofs.Said.{said-octets, unsaid}
+use Rattle.scenario_md.specs.Lines.{Asked, calls, mdAsked}
 use Rattle.scenario_md.proofs.Served.{answered-as, idle, same-telegram}
 use Rattle.scenario_md.proofs.md.Statement.{statement}
 use Rattle.scenario_md.proofs.md.Tie as tie
@@ -44,10 +44,10 @@ returns c =
     let d = c .before .before .octets in
     let said : List ℕ → Asked = λ x. calls (telegram (record { sender = eight (f1 .result); destination = eight (f2 .result); time = f3 .result .value; local = c .before .before .before .before .before .before .before .before .before .before .before .args .local }) x) in
     answered-as (idle (c .before .before .before .before .before .before .before .before .before .before .before .args .t) (c .before .before .before .before .before .before .before .before .before .before .before .args .statistics) (c .before .before .before .before .before .before .before .before .before .before .before .args .at) (c .before .before .before .before .before .before .before .before .before .before .before .args .out .now))
-    (number-read s (b .result) (readTo 0 2) (f1 .result) 8 (b .ensures) _ (f1 .ensures)
-    (number-read s (f1 .result) (f1 .result) (f2 .result) 8 refl _ (f2 .ensures)
-    (number-read s (f2 .result) (f2 .result) (f3 .result) 16 refl _ (f3 .ensures)
-    (last-bad s (f3 .result) (d .result) (length (c .before .before .before .before .buffer .result)) said (d .ensures .1 .0) (sym (c .before .before .before .before .buffer .ensures .0)) (c .if1 .taken)))))
+    (first-number s (b .result) (readTo 0 2) (f1 .result) 8 _ (b .ensures) (f1 .ensures)
+    (number-read s (f1 .result) (f2 .result) 8 _ (f2 .ensures)
+    (number-read s (f2 .result) (f3 .result) 16 _ (f3 .ensures)
+    (unsaid s (f3 .result) (c .before .before .before .before .buffer .result) (d .result) said (c .before .before .before .before .buffer .ensures .0) (d .ensures .1 .0) (c .if1 .taken)))))
 
 word-requires : tie.Need-word-requires
 word-requires c κs = search needs
@@ -78,10 +78,11 @@ returns-2 c =
     let d = c .before .before .before .before .before .before .before .before .before .octets in
     let said : List ℕ → Asked = λ x. calls (telegram (record { sender = eight (f1 .result); destination = eight (f2 .result); time = f3 .result .value; local = c .before .before .before .before .before .before .before .before .before .before .before .before .before .before .before .before .before .before .args .local }) x) in
     answered-as (c .before .before .receive .ensures)
-    (number-read s (b .result) (readTo 0 2) (f1 .result) 8 (b .ensures) _ (f1 .ensures)
-    (number-read s (f1 .result) (f1 .result) (f2 .result) 8 refl _ (f2 .ensures)
-    (number-read s (f2 .result) (f2 .result) (f3 .result) 16 refl _ (f3 .ensures)
-    (last-read s (f3 .result) (d .result) (length (c .before .before .before .before .before .before .before .before .before .before .before .buffer .result)) said (d .ensures .1 .0) (sym (c .before .before .before .before .before .before .before .before .before .before .before .buffer .ensures .0)) _ (c .before .before .before .before .before .before .before .if1 .left) (d .ensures .1 .1 (c .before .before .before .before .before .before .before .if1 .left)) (same-telegram (c .before .before .before .before .before .before .word .ensures) (c .before .before .before .before .before .word2 .ensures))))))
+    (first-number s (b .result) (readTo 0 2) (f1 .result) 8 _ (b .ensures) (f1 .ensures)
+    (number-read s (f1 .result) (f2 .result) 8 _ (f2 .ensures)
+    (number-read s (f2 .result) (f3 .result) 16 _ (f3 .ensures)
+    (said-octets s (f3 .result) (c .before .before .before .before .before .before .before .before .before .before .before .buffer .result) (d .result) said _ (c .before .before .before .before .before .before .before .before .before .before .before .buffer .ensures .0) (d .ensures .1 .0) (c .before .before .before .before .before .before .before .if1 .left) (d .ensures .1 .1)
+    ∙ same-telegram (c .before .before .before .before .before .before .word .ensures) (c .before .before .before .before .before .word2 .ensures)))))
 
 pub md-spec : {M : Type 1} → statement M
 md-spec =

@@ -3,8 +3,8 @@ use borrow.Author.Needs.{needs}
 use mathlib.Core.Path.{_≡_, refl, sym, _∙_}
 use mathlib.Core.Bool.{true, false}
 use Rattle.line.specs.Line.{readTo, ends}
+use Rattle.line.proofs.Fields.{ended, first-number, number-read, unended}
 use Rattle.scenario_md.specs.Lines.{replyAsked}
-use Rattle.scenario_md.proofs.Lines.{ended, number-read, unended}
 use Rattle.scenario_md.proofs.Served.{asks, told, unserved, same-reply}
 use Rattle.scenario_md.proofs.reply.Statement.{statement}
 use Rattle.scenario_md.proofs.reply.Tie as tie
@@ -59,10 +59,10 @@ returns c =
     let f4 = c .before .before .before .before .before .before .before .before .before .before .number4 in
     let e : ends s (f4 .result) ≡ true = sym (c .before .before .before .before .before .before .before .before .before .is-end .ensures) ∙ c .before .before .before .before .before .before .before .before .if1 .taken in
     asks (told (c .before .before .before .before .reply .ensures) (c .before .before .tell .ensures) (λ x. refl) (λ x n. refl))
-    (number-read s (b .result) (readTo 0 5) (f1 .result) 8 (b .ensures) _ (f1 .ensures)
-    (number-read s (f1 .result) (f1 .result) (f2 .result) 4 refl _ (f2 .ensures)
-    (number-read s (f2 .result) (f2 .result) (f3 .result) 8 refl _ (f3 .ensures)
-    (number-read s (f3 .result) (f3 .result) (f4 .result) 16 refl _ (f4 .ensures)
+    (first-number s (b .result) (readTo 0 5) (f1 .result) 8 _ (b .ensures) (f1 .ensures)
+    (number-read s (f1 .result) (f2 .result) 4 _ (f2 .ensures)
+    (number-read s (f2 .result) (f3 .result) 8 _ (f3 .ensures)
+    (number-read s (f3 .result) (f4 .result) 16 _ (f4 .ensures)
     (ended s (f4 .result) _ e (same-reply (c .before .before .before .before .before .before .before .word .ensures) (c .before .before .before .before .before .before .half .ensures) (c .before .before .before .before .before .word2 .ensures)))))))
 
 bad-requires : tie.Need-bad-requires
@@ -79,10 +79,10 @@ returns-2 c =
     let f4 = c .before .before .before .number4 in
     let e : ends s (f4 .result) ≡ false = sym (c .before .before .is-end .ensures) ∙ c .before .if1 .left in
     asks (unserved (c .before .before .before .before .before .before .before .before .before .before .args .t) (c .before .before .before .before .before .before .before .before .before .before .args .at) (c .before .before .before .before .before .before .before .before .before .before .args .out .now) (c .bad .ensures))
-    (number-read s (b .result) (readTo 0 5) (f1 .result) 8 (b .ensures) _ (f1 .ensures)
-    (number-read s (f1 .result) (f1 .result) (f2 .result) 4 refl _ (f2 .ensures)
-    (number-read s (f2 .result) (f2 .result) (f3 .result) 8 refl _ (f3 .ensures)
-    (number-read s (f3 .result) (f3 .result) (f4 .result) 16 refl _ (f4 .ensures)
+    (first-number s (b .result) (readTo 0 5) (f1 .result) 8 _ (b .ensures) (f1 .ensures)
+    (number-read s (f1 .result) (f2 .result) 4 _ (f2 .ensures)
+    (number-read s (f2 .result) (f3 .result) 8 _ (f3 .ensures)
+    (number-read s (f3 .result) (f4 .result) 16 _ (f4 .ensures)
     (unended s (f4 .result) _ e)))))
 
 pub reply-spec : {M : Type 1} → statement M

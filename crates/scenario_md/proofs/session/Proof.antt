@@ -3,9 +3,9 @@ use borrow.Author.Needs.{needs}
 use mathlib.Core.Path.{_≡_, refl, sym, _∙_}
 use mathlib.Core.Bool.{true, false}
 use Rattle.line.specs.Line.{readTo, ends}
+use Rattle.line.proofs.Fields.{ended, first-number, unended}
 use Rattle.scenario_md.specs.Lines.{sessionAsked}
-use Rattle.scenario_md.proofs.Lines.{ended, number-read, unended}
-use Rattle.scenario_md.proofs.Served.{asks, shown, unserved}
+use Rattle.scenario_md.proofs.Served.{asks, shown, unserved, same-look}
 use Rattle.scenario_md.proofs.session.Statement.{statement}
 use Rattle.scenario_md.proofs.session.Tie as tie
 
@@ -38,8 +38,8 @@ returns c =
     let f1 = c .before .before .before .before .before .before .before .number in
     let e : ends s (f1 .result) ≡ true = sym (c .before .before .before .before .before .before .is-end .ensures) ∙ c .before .before .before .before .before .if1 .taken in
     asks (shown (c .before .before .before .word .result) (c .before .before .put-place .ensures) refl)
-    (number-read s (b .result) (readTo 0 7) (f1 .result) 8 (b .ensures) _ (f1 .ensures)
-    (ended s (f1 .result) _ e (cc (c .before .before .before .word .ensures))))
+    (first-number s (b .result) (readTo 0 7) (f1 .result) 8 _ (b .ensures) (f1 .ensures)
+    (ended s (f1 .result) _ e (same-look (c .before .before .before .word .ensures))))
 
 bad-requires : tie.Need-bad-requires
 bad-requires c κs = search needs
@@ -52,7 +52,7 @@ returns-2 c =
     let f1 = c .before .before .before .number in
     let e : ends s (f1 .result) ≡ false = sym (c .before .before .is-end .ensures) ∙ c .before .if1 .left in
     asks (unserved (c .before .before .before .before .before .before .before .args .t) (c .before .before .before .before .before .before .before .args .at) (c .before .before .before .before .before .before .before .args .out .now) (c .bad .ensures))
-    (number-read s (b .result) (readTo 0 7) (f1 .result) 8 (b .ensures) _ (f1 .ensures)
+    (first-number s (b .result) (readTo 0 7) (f1 .result) 8 _ (b .ensures) (f1 .ensures)
     (unended s (f1 .result) _ e))
 
 pub session-spec : {M : Type 1} → statement M

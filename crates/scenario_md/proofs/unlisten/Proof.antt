@@ -3,9 +3,9 @@ use borrow.Author.Needs.{needs}
 use mathlib.Core.Path.{_≡_, refl, sym, _∙_}
 use mathlib.Core.Bool.{true, false}
 use Rattle.line.specs.Line.{readTo, ends}
+use Rattle.line.proofs.Fields.{ended, first-number, unended}
 use Rattle.scenario_md.specs.Lines.{unlistenAsked}
-use Rattle.scenario_md.proofs.Lines.{ended, number-read, unended}
-use Rattle.scenario_md.proofs.Served.{asks, told, unserved}
+use Rattle.scenario_md.proofs.Served.{asks, told, unserved, same-unlisten}
 use Rattle.scenario_md.proofs.unlisten.Statement.{statement}
 use Rattle.scenario_md.proofs.unlisten.Tie as tie
 
@@ -41,8 +41,8 @@ returns c =
     let f1 = c .before .before .before .before .before .before .before .before .number in
     let e : ends s (f1 .result) ≡ true = sym (c .before .before .before .before .before .before .before .is-end .ensures) ∙ c .before .before .before .before .before .before .if1 .taken in
     asks (told (c .before .before .before .before .unlisten .ensures) (c .before .before .tell .ensures) (λ x. refl) (λ x n. refl))
-    (number-read s (b .result) (readTo 0 8) (f1 .result) 8 (b .ensures) _ (f1 .ensures)
-    (ended s (f1 .result) _ e (cc (c .before .before .before .before .before .word .ensures))))
+    (first-number s (b .result) (readTo 0 8) (f1 .result) 8 _ (b .ensures) (f1 .ensures)
+    (ended s (f1 .result) _ e (same-unlisten (c .before .before .before .before .before .word .ensures))))
 
 bad-requires : tie.Need-bad-requires
 bad-requires c κs = search needs
@@ -55,7 +55,7 @@ returns-2 c =
     let f1 = c .before .before .before .number in
     let e : ends s (f1 .result) ≡ false = sym (c .before .before .is-end .ensures) ∙ c .before .if1 .left in
     asks (unserved (c .before .before .before .before .before .before .before .args .t) (c .before .before .before .before .before .before .before .args .at) (c .before .before .before .before .before .before .before .args .out .now) (c .bad .ensures))
-    (number-read s (b .result) (readTo 0 8) (f1 .result) 8 (b .ensures) _ (f1 .ensures)
+    (first-number s (b .result) (readTo 0 8) (f1 .result) 8 _ (b .ensures) (f1 .ensures)
     (unended s (f1 .result) _ e))
 
 pub unlisten-spec : {M : Type 1} → statement M

@@ -1,12 +1,9 @@
 -- The line ends behind the time.
-use mathlib.Core.Path.{sym, ap, _∙_}
-use Rattle.line.specs.declared.Field.{Field}
-use mathlib.Core.Option.{Option}
+use mathlib.Core.Path.{refl, sym, _∙_}
 use Rattle.line.specs.Line.{readTo}
-use Rattle.scenario_pd.proofs.Said.{one-said, one-bad}
-use Rattle.scenario_pd.proofs.Turning.{by-effect, turned, unturned, not-calling}
-use Rattle.subscription.specs.Table.{Call, timeCheck}
-use Rattle.scenario_pd.specs.Effect.{calling}
+use Rattle.line.proofs.Fields.{ended, first-number, unended}
+use Rattle.scenario_pd.proofs.Turning.{by-call, turned, uncalled}
+use Rattle.subscription.specs.Table.{timeCheck}
 use Rattle.scenario_pd.specs.Lines.{checkCall}
 use borrow.Author.Needs.{needs}
 use Rattle.scenario_pd.proofs.check.Statement.{statement}
@@ -46,9 +43,13 @@ returns : tie.Need-returns
 unfolding checkCall
 returns c =
     let a = c .before .before .before .before .before .before .before .before .before .before .before .before .before .before .before .before .before .before .args in
-    by-effect (ap (λ (x : Option Call). calling x (a .t) (a .store .now))
-    (one-said (a .s .now) (readTo 0 5) (c .before .before .before .before .before .before .before .before .before .before .before .before .before .before .behind .result) (c .before .before .before .before .before .before .before .before .before .before .before .before .before .number .result) 16 (λ (time : Field). timeCheck (time .value)) (c .before .before .before .before .before .before .before .before .before .before .before .before .before .before .behind .ensures) (c .before .before .before .before .before .before .before .before .before .before .before .before .before .number .ensures) (sym (c .before .before .before .before .before .before .before .before .before .before .before .before .is-end .ensures) ∙ c .before .before .before .before .before .before .before .before .before .before .before .if1 .taken)))
-    (turned (timeCheck (c .before .before .before .before .before .before .before .before .before .before .before .before .before .number .result .value)) (a .t) (a .store .now) (c .before .before .before .before .before .before .before .before .at-most .result) (c .before .before .before .before .before .before .before .before .at-most .ensures .1) (c .before .before .before .before .before .before .time-check .ensures) (c .before .before .turn .ensures .0) (c .before .before .turn .ensures .1))
+    let b = c .before .before .before .before .before .before .before .before .before .before .before .before .before .before .behind in
+    let time = c .before .before .before .before .before .before .before .before .before .before .before .before .before .number in
+    let n = c .before .before .before .before .before .before .before .before .at-most in
+    by-call (a .t) (a .store .now)
+    (first-number (a .s .now) (b .result) (readTo 0 5) (time .result) 16 _ (b .ensures) (time .ensures)
+    (ended (a .s .now) (time .result) _ (sym (c .before .before .before .before .before .before .before .before .before .before .before .before .is-end .ensures) ∙ c .before .before .before .before .before .before .before .before .before .before .before .if1 .taken) refl))
+    (turned (timeCheck (time .result .value)) (a .t) (a .store .now) (n .result) (n .ensures .1) (c .before .before .before .before .before .before .time-check .ensures) (c .before .before .turn .ensures .0) (c .before .before .turn .ensures .1))
 
 bad-requires : tie.Need-bad-requires
 bad-requires c κs = search needs
@@ -57,9 +58,12 @@ returns-2 : tie.Need-returns-2
 unfolding checkCall
 returns-2 c =
     let a = c .before .before .before .before .before .before .before .before .args in
-    by-effect (ap (λ (x : Option Call). calling x (a .t) (a .store .now))
-    (one-bad (a .s .now) (readTo 0 5) (c .before .before .before .before .behind .result) (c .before .before .before .number .result) 16 (λ (time : Field). timeCheck (time .value)) (c .before .before .before .before .behind .ensures) (c .before .before .before .number .ensures) (sym (c .before .before .is-end .ensures) ∙ c .before .if1 .left)) ∙ not-calling (a .t) (a .store .now))
-    (unturned (c .bad .result) (c .bad .ensures))
+    let b = c .before .before .before .before .behind in
+    let time = c .before .before .before .number in
+    uncalled (a .t) (a .store .now)
+    (first-number (a .s .now) (b .result) (readTo 0 5) (time .result) 16 _ (b .ensures) (time .ensures)
+    (unended (a .s .now) (time .result) _ (sym (c .before .before .is-end .ensures) ∙ c .before .if1 .left)))
+    (c .bad .result) (c .bad .ensures)
 
 pub check-spec : {M : Type 1} → statement M
 check-spec = tie.close (tie.spec behind-requires number-requires is-end-requires at-most-requires slice-relend-prefix-time-check slice-aggregate-time-check time-check-requires turn-requires same-length same-length-2 returns bad-requires returns-2)

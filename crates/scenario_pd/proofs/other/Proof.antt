@@ -1,7 +1,9 @@
 -- By the verb.
 use mathlib.Core.Path.{refl, sym, _∙_}
-use Rattle.scenario_pd.specs.Lines.{otherEffect}
 use borrow.Author.Needs.{needs}
+use Rattle.line.proofs.Fields.{chosen, passed}
+use Rattle.scenario_pd.specs.Lines.{otherEffect}
+use Rattle.scenario_pd.proofs.Turning.{by-effect}
 use Rattle.scenario_pd.proofs.other.Statement.{statement}
 use Rattle.scenario_pd.proofs.other.Tie as tie
 
@@ -22,7 +24,10 @@ same-length-2 c = search needs
 
 returns : tie.Need-returns
 unfolding otherEffect
-returns c = rw (sym (c .before .before .before .before .before .before .before .before .is-verb .ensures) ∙ c .before .before .before .before .before .before .before .if1 .taken) (c .before .before .before .before .sub .ensures)
+returns c =
+    by-effect
+    (chosen _ _ _ (sym (c .before .before .before .before .before .before .before .before .is-verb .ensures) ∙ c .before .before .before .before .before .before .before .if1 .taken) refl)
+    (c .before .before .before .before .sub .ensures)
 
 slice-aggregate-is-verb-2 : tie.Need-slice-aggregate-is-verb-2
 slice-aggregate-is-verb-2 c = search needs
@@ -41,7 +46,11 @@ same-length-4 c = search needs
 
 returns-2 : tie.Need-returns-2
 unfolding otherEffect
-returns-2 c = rw (sym (c .before .before .before .before .before .before .before .before .before .before .before .is-verb .ensures) ∙ c .before .before .before .before .before .before .before .before .before .before .if1 .left, sym (c .before .before .before .before .before .before .before .before .is-verb2 .ensures) ∙ c .before .before .before .before .before .before .before .if2 .taken) (c .before .before .before .before .unsub .ensures)
+returns-2 c =
+    by-effect
+    (passed _ _ _ (sym (c .before .before .before .before .before .before .before .before .before .before .before .is-verb .ensures) ∙ c .before .before .before .before .before .before .before .before .before .before .if1 .left)
+    (chosen _ _ _ (sym (c .before .before .before .before .before .before .before .before .is-verb2 .ensures) ∙ c .before .before .before .before .before .before .before .if2 .taken) refl))
+    (c .before .before .before .before .unsub .ensures)
 
 slice-aggregate-is-verb-3 : tie.Need-slice-aggregate-is-verb-3
 slice-aggregate-is-verb-3 c = search needs
@@ -60,16 +69,15 @@ same-length-6 c = search needs
 
 returns-3 : tie.Need-returns-3
 unfolding otherEffect
-returns-3 c = rw (sym (c .before .before .before .before .before .before .before .before .before .before .before .before .before .before .is-verb .ensures) ∙ c .before .before .before .before .before .before .before .before .before .before .before .before .before .if1 .left, sym (c .before .before .before .before .before .before .before .before .before .before .before .is-verb2 .ensures) ∙ c .before .before .before .before .before .before .before .before .before .before .if2 .left, sym (c .before .before .before .before .before .before .before .before .is-verb3 .ensures) ∙ c .before .before .before .before .before .before .before .if3 .taken) (c .before .before .before .before .check .ensures)
+returns-3 c =
+    by-effect
+    (passed _ _ _ (sym (c .before .before .before .before .before .before .before .before .before .before .before .before .before .before .is-verb .ensures) ∙ c .before .before .before .before .before .before .before .before .before .before .before .before .before .if1 .left)
+    (passed _ _ _ (sym (c .before .before .before .before .before .before .before .before .before .before .before .is-verb2 .ensures) ∙ c .before .before .before .before .before .before .before .before .before .before .if2 .left)
+    (chosen _ _ _ (sym (c .before .before .before .before .before .before .before .before .is-verb3 .ensures) ∙ c .before .before .before .before .before .before .before .if3 .taken) refl)))
+    (c .before .before .before .before .check .ensures)
 
-slice-aggregate-is-verb-4 : tie.Need-slice-aggregate-is-verb-4
-slice-aggregate-is-verb-4 c = search needs
-
-is-verb-requires-4 : tie.Need-is-verb-requires-4
-is-verb-requires-4 c κs = search needs
-
-lend-requires : tie.Need-lend-requires
-lend-requires c κs = search needs
+own-requires : tie.Need-own-requires
+own-requires c κs = search needs
 
 same-length-7 : tie.Need-same-length-7
 same-length-7 c = search needs
@@ -79,38 +87,36 @@ same-length-8 c = search needs
 
 returns-4 : tie.Need-returns-4
 unfolding otherEffect
-returns-4 c = rw (sym (c .before .before .before .before .before .before .before .before .before .before .before .before .before .before .before .is-verb .ensures) ∙ c .before .before .before .before .before .before .before .before .before .before .before .before .before .before .if1 .left, sym (c .before .before .before .before .before .before .before .before .before .before .before .before .is-verb2 .ensures) ∙ c .before .before .before .before .before .before .before .before .before .before .before .if2 .left, sym (c .before .before .before .before .before .before .before .before .before .is-verb3 .ensures) ∙ c .before .before .before .before .before .before .before .before .if3 .left, sym (c .before .before .before .before .before .before .is-verb4 .ensures) ∙ c .before .before .before .before .before .if4 .taken) (c .before .before .lend .ensures)
-
-slice-aggregate-is-verb-5 : tie.Need-slice-aggregate-is-verb-5
-slice-aggregate-is-verb-5 c = search needs
-
-is-verb-requires-5 : tie.Need-is-verb-requires-5
-is-verb-requires-5 c κs = search needs
-
-damage-requires : tie.Need-damage-requires
-damage-requires c κs = search needs
-
-same-length-9 : tie.Need-same-length-9
-same-length-9 c = search needs
-
-returns-5 : tie.Need-returns-5
-unfolding otherEffect
-returns-5 c =
-    let a = c .before .before .before .before .before .before .before .before .before .before .before .before .before .before .before .before .before .before .before .before .before .before .args in
-    rw (sym (c .before .before .before .before .before .before .before .before .before .before .before .before .before .before .before .before .before .is-verb .ensures) ∙ c .before .before .before .before .before .before .before .before .before .before .before .before .before .before .before .before .if1 .left, sym (c .before .before .before .before .before .before .before .before .before .before .before .before .before .before .is-verb2 .ensures) ∙ c .before .before .before .before .before .before .before .before .before .before .before .before .before .if2 .left, sym (c .before .before .before .before .before .before .before .before .before .before .before .is-verb3 .ensures) ∙ c .before .before .before .before .before .before .before .before .before .before .if3 .left, sym (c .before .before .before .before .before .before .before .before .is-verb4 .ensures) ∙ c .before .before .before .before .before .before .before .if4 .left, sym (c .before .before .before .before .before .is-verb5 .ensures) ∙ c .before .before .before .before .if5 .taken) (c .before .before .damage .ensures (a .store .now))
-
-answer-requires : tie.Need-answer-requires
-answer-requires c κs = search needs
-
-same-length-10 : tie.Need-same-length-10
-same-length-10 c = search needs
-
-same-length-11 : tie.Need-same-length-11
-same-length-11 c = search needs
-
-returns-6 : tie.Need-returns-6
-unfolding otherEffect
-returns-6 c = rw (sym (c .before .before .before .before .before .before .before .before .before .before .before .before .before .before .before .before .before .before .is-verb .ensures) ∙ c .before .before .before .before .before .before .before .before .before .before .before .before .before .before .before .before .before .if1 .left, sym (c .before .before .before .before .before .before .before .before .before .before .before .before .before .before .before .is-verb2 .ensures) ∙ c .before .before .before .before .before .before .before .before .before .before .before .before .before .before .if2 .left, sym (c .before .before .before .before .before .before .before .before .before .before .before .before .is-verb3 .ensures) ∙ c .before .before .before .before .before .before .before .before .before .before .before .if3 .left, sym (c .before .before .before .before .before .before .before .before .before .is-verb4 .ensures) ∙ c .before .before .before .before .before .before .before .before .if4 .left, sym (c .before .before .before .before .before .before .is-verb5 .ensures) ∙ c .before .before .before .before .before .if5 .left) (record { words = c .before .before .answer .ensures; slots-after = refl; store-after = refl })
+returns-4 c =
+    by-effect
+    (passed _ _ _ (sym (c .before .before .before .before .before .before .before .before .before .before .before .before .is-verb .ensures) ∙ c .before .before .before .before .before .before .before .before .before .before .before .if1 .left)
+    (passed _ _ _ (sym (c .before .before .before .before .before .before .before .before .before .is-verb2 .ensures) ∙ c .before .before .before .before .before .before .before .before .if2 .left)
+    (passed _ _ _ (sym (c .before .before .before .before .before .before .is-verb3 .ensures) ∙ c .before .before .before .before .before .if3 .left) refl)))
+    (c .before .before .own .ensures)
 
 pub other-spec : {M : Type 1} → statement M
-other-spec = tie.close (tie.spec slice-aggregate-is-verb is-verb-requires sub-requires same-length same-length-2 returns slice-aggregate-is-verb-2 is-verb-requires-2 unsub-requires same-length-3 same-length-4 returns-2 slice-aggregate-is-verb-3 is-verb-requires-3 check-requires same-length-5 same-length-6 returns-3 slice-aggregate-is-verb-4 is-verb-requires-4 lend-requires same-length-7 same-length-8 returns-4 slice-aggregate-is-verb-5 is-verb-requires-5 damage-requires same-length-9 returns-5 answer-requires same-length-10 same-length-11 returns-6)
+other-spec =
+    tie.close
+    (tie.spec
+    slice-aggregate-is-verb
+    is-verb-requires
+    sub-requires
+    same-length
+    same-length-2
+    returns
+    slice-aggregate-is-verb-2
+    is-verb-requires-2
+    unsub-requires
+    same-length-3
+    same-length-4
+    returns-2
+    slice-aggregate-is-verb-3
+    is-verb-requires-3
+    check-requires
+    same-length-5
+    same-length-6
+    returns-3
+    own-requires
+    same-length-7
+    same-length-8
+    returns-4)

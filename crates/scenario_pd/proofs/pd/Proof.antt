@@ -1,12 +1,12 @@
 -- Field by field, and the octets behind them.
-use mathlib.Core.Path.{refl, sym, ap, _∙_}
-use mathlib.Core.Option.{Option}
-use Rattle.line.specs.Line.{lastField}
-use Rattle.scenario_pd.proofs.Turning.{by-effect, not-calling, not-counting, pd-said, pd-bad}
-use Rattle.subscription.specs.Table.{Call}
-use Rattle.answer.proofs.Rooms.{unanswered}
-use Rattle.scenario_pd.specs.Effect.{calling, counting}
+use mathlib.Core.Path.{_≡_, refl, sym, ap, _∙_}
+use mathlib.Core.Option.{Option, none}
 use borrow.Author.Needs.{needs}
+use Rattle.line.proofs.Said.{said-octets, unsaid}
+use Rattle.subscription.specs.Table.{Call, telegram}
+use Rattle.scenario_pd.specs.Effect.{counting}
+use Rattle.scenario_pd.specs.Lines.{arrivalIn, pdCall}
+use Rattle.scenario_pd.proofs.Turning.{by-call, uncalled, uncounted, pd-fields, same-telegram}
 use Rattle.scenario_pd.proofs.pd.Statement.{statement}
 use Rattle.scenario_pd.proofs.pd.Tie as tie
 
@@ -34,10 +34,14 @@ octets-requires c κs = search needs
 returns : tie.Need-returns
 returns c =
     let a = c .before .before .before .before .before .before .before .before .before .before .before .before .args in
-    let e = pd-bad (a .local) (a .s .now) (c .before .before .before .before .before .before .before .before .behind .result) (c .before .before .before .before .before .before .before .number .result) (c .before .before .before .before .before .before .number2 .result) (c .before .before .before .before .before .number3 .result) (c .before .before .octets .result) (c .before .before .before .before .before .before .before .before .behind .ensures) (c .before .before .before .before .before .before .before .number .ensures) (c .before .before .before .before .before .before .number2 .ensures) (c .before .before .before .before .before .number3 .ensures) (c .before .before .octets .ensures .1 .0 ∙ ap (lastField (a .s .now) (c .before .before .before .before .before .number3 .result)) (sym (c .before .before .before .before .buffer .ensures .0))) (c .if1 .taken) in (
-      by-effect (ap (λ (x : Option Call). calling x (a .t) (a .store .now)) e ∙ not-calling (a .t) (a .store .now)) (record { words = unanswered (a .at) (a .out .now); slots-after = refl; store-after = refl }),
-      sym (ap (λ (x : Option Call). counting x (a .t) (a .store .now) (a .statistics)) e ∙ not-counting (a .t) (a .store .now) (a .statistics)),
-    )
+    let b = c .before .before .before .before .before .before .before .before .behind in
+    let f1 = c .before .before .before .before .before .before .before .number in
+    let f2 = c .before .before .before .before .before .before .number2 in
+    let f3 = c .before .before .before .before .before .number3 in
+    let m = c .before .before .before .before .buffer in
+    let d = c .before .before .octets in
+    let e : pdCall (a .local) (a .s .now) ≡ none = pd-fields (a .local) (a .s .now) (b .result) (f1 .result) (f2 .result) (f3 .result) (b .ensures) (f1 .ensures) (f2 .ensures) (f3 .ensures) ∙ unsaid (a .s .now) (f3 .result) (m .result) (d .result) (telegram (arrivalIn (a .local) (f1 .result) (f2 .result) (f3 .result))) (m .ensures .0) (d .ensures .1 .0) (c .if1 .taken) in
+    (uncalled (a .t) (a .store .now) e (record { slots = a .t; at = 0 }) refl, uncounted (a .t) (a .store .now) (a .statistics) e)
 
 word-requires : tie.Need-word-requires
 word-requires c κs = search needs
@@ -63,8 +67,17 @@ same-length-2 c = search needs
 returns-2 : tie.Need-returns-2
 returns-2 c =
     let a = c .before .before .before .before .before .before .before .before .before .before .before .before .before .before .before .before .before .before .before .before .before .before .args in
-    let e = pd-said (a .local) (a .s .now) (c .before .before .before .before .before .before .before .before .before .before .before .before .before .before .before .before .before .before .behind .result) (c .before .before .before .before .before .before .before .before .before .before .before .before .before .before .before .before .before .number .result) (c .before .before .before .before .before .before .before .before .before .before .before .before .before .before .before .before .number2 .result) (c .before .before .before .before .before .before .before .before .before .before .before .before .before .before .before .number3 .result) (c .before .before .before .before .before .before .before .before .before .before .before .before .octets .result) (c .before .before .before .before .before .before .before .before .before .before .before .before .before .before .before .before .before .before .behind .ensures) (c .before .before .before .before .before .before .before .before .before .before .before .before .before .before .before .before .before .number .ensures) (c .before .before .before .before .before .before .before .before .before .before .before .before .before .before .before .before .number2 .ensures) (c .before .before .before .before .before .before .before .before .before .before .before .before .before .before .before .number3 .ensures) (c .before .before .before .before .before .before .before .before .before .before .before .before .octets .ensures .1 .0 ∙ ap (lastField (a .s .now) (c .before .before .before .before .before .before .before .before .before .before .before .before .before .before .before .number3 .result)) (sym (c .before .before .before .before .before .before .before .before .before .before .before .before .before .before .buffer .ensures .0))) _ (c .before .before .before .before .before .before .before .before .before .word .result) (c .before .before .before .before .before .before .before .before .word2 .result) (c .before .before .before .before .before .before .before .before .before .before .if1 .left) (c .before .before .before .before .before .before .before .before .before .before .before .before .octets .ensures .1 .1 .0 (c .before .before .before .before .before .before .before .before .before .before .if1 .left)) (c .before .before .before .before .before .before .before .before .before .word .ensures) (c .before .before .before .before .before .before .before .before .word2 .ensures) in (
-      by-effect (ap (λ (x : Option Call). calling x (a .t) (a .store .now)) e) (c .before .before .before .before .receive .ensures .0),
+    let b = c .before .before .before .before .before .before .before .before .before .before .before .before .before .before .before .before .before .before .behind in
+    let f1 = c .before .before .before .before .before .before .before .before .before .before .before .before .before .before .before .before .before .number in
+    let f2 = c .before .before .before .before .before .before .before .before .before .before .before .before .before .before .before .before .number2 in
+    let f3 = c .before .before .before .before .before .before .before .before .before .before .before .before .before .before .before .number3 in
+    let m = c .before .before .before .before .before .before .before .before .before .before .before .before .before .before .buffer in
+    let d = c .before .before .before .before .before .before .before .before .before .before .before .before .octets in
+    let e =
+    pd-fields (a .local) (a .s .now) (b .result) (f1 .result) (f2 .result) (f3 .result) (b .ensures) (f1 .ensures) (f2 .ensures) (f3 .ensures)
+    ∙ said-octets (a .s .now) (f3 .result) (m .result) (d .result) (telegram (arrivalIn (a .local) (f1 .result) (f2 .result) (f3 .result))) _ (m .ensures .0) (d .ensures .1 .0) (c .before .before .before .before .before .before .before .before .before .before .if1 .left) (d .ensures .1 .1)
+    ∙ same-telegram (c .before .before .before .before .before .before .before .before .before .word .ensures) (c .before .before .before .before .before .before .before .before .word2 .ensures) in (
+      by-call (a .t) (a .store .now) e (c .before .before .before .before .receive .ensures .0),
       c .before .before .before .before .receive .ensures .1 ∙ sym (ap (λ (x : Option Call). counting x (a .t) (a .store .now) (a .statistics)) e),
     )
 

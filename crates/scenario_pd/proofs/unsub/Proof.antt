@@ -1,13 +1,11 @@
 -- The line ends behind the slot's number.
 use mathlib.Core.Path.{sym, ap, _∙_}
 use Prim.Native.Nat.{ℕ}
-use Rattle.line.specs.declared.Field.{Field}
-use mathlib.Core.Option.{Option, some}
+use mathlib.Core.Option.{some}
 use Rattle.line.specs.Line.{readTo}
-use Rattle.scenario_pd.proofs.Said.{one-said, one-bad}
-use Rattle.scenario_pd.proofs.Turning.{by-effect, turned, unturned, not-calling}
-use Rattle.subscription.specs.Table.{Call, unsubscribe}
-use Rattle.scenario_pd.specs.Effect.{wordIn, calling}
+use Rattle.line.proofs.Fields.{ended, first-number, unended}
+use Rattle.scenario_pd.proofs.Turning.{by-call, turned, uncalled}
+use Rattle.subscription.specs.Table.{unsubscribe}
 use Rattle.scenario_pd.specs.Lines.{unsubCall}
 use borrow.Author.Needs.{needs}
 use Rattle.scenario_pd.proofs.unsub.Statement.{statement}
@@ -53,9 +51,14 @@ returns : tie.Need-returns
 unfolding unsubCall
 returns c =
     let a = c .before .before .before .before .before .before .before .before .before .before .before .before .before .before .before .before .before .before .before .args in
-    by-effect (ap (λ (x : Option Call). calling x (a .t) (a .store .now))
-    (one-said (a .s .now) (readTo 0 5) (c .before .before .before .before .before .before .before .before .before .before .before .before .before .before .before .behind .result) (c .before .before .before .before .before .before .before .before .before .before .before .before .before .before .number .result) 8 (λ (k : Field). unsubscribe (wordIn k)) (c .before .before .before .before .before .before .before .before .before .before .before .before .before .before .before .behind .ensures) (c .before .before .before .before .before .before .before .before .before .before .before .before .before .before .number .ensures) (sym (c .before .before .before .before .before .before .before .before .before .before .before .before .before .is-end .ensures) ∙ c .before .before .before .before .before .before .before .before .before .before .before .before .if1 .taken) ∙ ap (λ (k : ℕ). some (unsubscribe k)) (sym (c .before .before .before .before .before .before .before .word .ensures))))
-    (turned (unsubscribe (c .before .before .before .before .before .before .before .word .result)) (a .t) (a .store .now) (c .before .before .before .before .before .before .before .before .before .at-most .result) (c .before .before .before .before .before .before .before .before .before .at-most .ensures .1) (c .before .before .before .before .before .before .unsubscribe .ensures) (c .before .before .turn .ensures .0) (c .before .before .turn .ensures .1))
+    let b = c .before .before .before .before .before .before .before .before .before .before .before .before .before .before .before .behind in
+    let k = c .before .before .before .before .before .before .before .before .before .before .before .before .before .before .number in
+    let n = c .before .before .before .before .before .before .before .before .before .at-most in
+    let w = c .before .before .before .before .before .before .before .word in
+    by-call (a .t) (a .store .now)
+    (first-number (a .s .now) (b .result) (readTo 0 5) (k .result) 8 _ (b .ensures) (k .ensures)
+    (ended (a .s .now) (k .result) _ (sym (c .before .before .before .before .before .before .before .before .before .before .before .before .before .is-end .ensures) ∙ c .before .before .before .before .before .before .before .before .before .before .before .before .if1 .taken) (ap (λ (x : ℕ). some (unsubscribe x)) (sym (w .ensures)))))
+    (turned (unsubscribe (w .result)) (a .t) (a .store .now) (n .result) (n .ensures .1) (c .before .before .before .before .before .before .unsubscribe .ensures) (c .before .before .turn .ensures .0) (c .before .before .turn .ensures .1))
 
 bad-requires : tie.Need-bad-requires
 bad-requires c κs = search needs
@@ -64,9 +67,12 @@ returns-2 : tie.Need-returns-2
 unfolding unsubCall
 returns-2 c =
     let a = c .before .before .before .before .before .before .before .before .args in
-    by-effect (ap (λ (x : Option Call). calling x (a .t) (a .store .now))
-    (one-bad (a .s .now) (readTo 0 5) (c .before .before .before .before .behind .result) (c .before .before .before .number .result) 8 (λ (k : Field). unsubscribe (wordIn k)) (c .before .before .before .before .behind .ensures) (c .before .before .before .number .ensures) (sym (c .before .before .is-end .ensures) ∙ c .before .if1 .left)) ∙ not-calling (a .t) (a .store .now))
-    (unturned (c .bad .result) (c .bad .ensures))
+    let b = c .before .before .before .before .behind in
+    let k = c .before .before .before .number in
+    uncalled (a .t) (a .store .now)
+    (first-number (a .s .now) (b .result) (readTo 0 5) (k .result) 8 _ (b .ensures) (k .ensures)
+    (unended (a .s .now) (k .result) _ (sym (c .before .before .is-end .ensures) ∙ c .before .if1 .left)))
+    (c .bad .result) (c .bad .ensures)
 
 pub unsub-spec : {M : Type 1} → statement M
 unsub-spec = tie.close (tie.spec behind-requires number-requires is-end-requires at-most-requires slice-relend-prefix-unsubscribe slice-aggregate-unsubscribe word-requires cast-unsubscribe unsubscribe-requires turn-requires same-length same-length-2 returns bad-requires returns-2)

@@ -39,8 +39,7 @@ word-requires-4 c κs = search needs
 
 returns : tie.Need-returns
 returns c = let a = c .before .before .before .before .before .before .before .before .before .before .before .before .args in
-    let k = common-read (a .s .now) (a .counter) (c .before .before .before .before .before .before .before .before .before .before .number .result) (c .before .before .before .before .before .before .before .before .before .number2 .result) (c .before .before .before .before .before .before .before .before .number3 .result) (c .before .before .before .before .before .before .before .number4 .result) (c .before .before .before .before .before .before .number5 .result) (c .before .before .before .before .before .before .before .before .before .before .number .ensures) (c .before .before .before .before .before .before .before .before .before .number2 .ensures) (c .before .before .before .before .before .before .before .before .number3 .ensures) (c .before .before .before .before .before .before .before .number4 .ensures) (c .before .before .before .before .before .before .number5 .ensures) in
-    cc (k, c .before .before .before .before .before .word .ensures, c .before .before .before .before .half .ensures, c .before .before .before .half2 .ensures, c .before .before .word2 .ensures, c .before .word3 .ensures, c .word4 .ensures)
+    common-read (a .s .now) (a .counter) (c .before .before .before .before .before .before .before .before .before .before .number .result) (c .before .before .before .before .before .before .before .before .before .number2 .result) (c .before .before .before .before .before .before .before .before .number3 .result) (c .before .before .before .before .before .before .before .number4 .result) (c .before .before .before .before .before .before .number5 .result) (c .before .before .before .before .before .before .before .before .before .before .number .ensures) (c .before .before .before .before .before .before .before .before .before .number2 .ensures) (c .before .before .before .before .before .before .before .before .number3 .ensures) (c .before .before .before .before .before .before .before .number4 .ensures) (c .before .before .before .before .before .before .number5 .ensures) (c .before .before .before .before .before .word .ensures) (c .before .before .before .before .half .ensures) (c .before .before .before .half2 .ensures) (c .before .before .word2 .ensures) (c .before .word3 .ensures) (c .word4 .ensures)
 
 pub common-fields-spec : {M : Type 1} → statement M
 common-fields-spec =

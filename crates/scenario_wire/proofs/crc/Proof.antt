@@ -1,7 +1,5 @@
--- The last field is bad, or its octets are checked.
+-- The last field is bad, or its octets are taken apart.
 use mathlib.Core.Path.{_∙_}
-use lib.ListN.{take}
-use Rattle.answer.proofs.Rooms.{pieces, _⨟_}
 use Rattle.line.proofs.Said.{unsaid, said-octets}
 use Rattle.answer.proofs.Rooms.{not-answered, answered-by}
 use Rattle.scenario_wire.proofs.Wired.{crc-is}
@@ -26,31 +24,21 @@ returns : tie.Need-returns
 returns c = let a = c .before .before .before .before .before .before .before .before .args in
     not-answered (crc-is (a .s .now) (c .before .before .before .before .behind .result) (c .before .before .before .before .behind .ensures) ∙ unsaid (a .s .now) (c .before .before .before .before .behind .result) (c .before .before .before .before .before .buffer .result) (c .before .before .octets .result) crcWords (c .before .before .before .before .before .buffer .ensures .0) (c .before .before .octets .ensures .1 .0) (c .if1 .taken)) (a .at) (a .out .now)
 
-slice-aggregate-word : tie.Need-slice-aggregate-word
-slice-aggregate-word c = search needs
-
-word-requires : tie.Need-word-requires
-word-requires c κs = search needs
-
 array-share-prefix-data : tie.Need-array-share-prefix-data
 array-share-prefix-data c = search needs
 
-slice-aggregate-frame-check : tie.Need-slice-aggregate-frame-check
-slice-aggregate-frame-check c = search needs
+slice-aggregate-put-crc : tie.Need-slice-aggregate-put-crc
+slice-aggregate-put-crc c = search needs
 
-frame-check-requires : tie.Need-frame-check-requires
-frame-check-requires c κs = search needs
-
-number8-requires : tie.Need-number8-requires
-number8-requires c κs = search needs
+put-crc-requires : tie.Need-put-crc-requires
+put-crc-requires c κs = search needs
 
 same-length : tie.Need-same-length
 same-length c = search needs
 
 returns-2 : tie.Need-returns-2
-unfolding crcWords
-returns-2 c = let a = c .before .before .before .before .before .before .before .before .before .before .before .before .before .before .before .before .before .before .before .args in
-    answered-by (crc-is (a .s .now) (c .before .before .before .before .before .before .before .before .before .before .before .before .before .before .before .behind .result) (c .before .before .before .before .before .before .before .before .before .before .before .before .before .before .before .behind .ensures) ∙ said-octets (a .s .now) (c .before .before .before .before .before .before .before .before .before .before .before .before .before .before .before .behind .result) (c .before .before .before .before .before .before .before .before .before .before .before .before .before .before .before .before .buffer .result) (c .before .before .before .before .before .before .before .before .before .before .before .before .before .octets .result) crcWords (c .before .before .before .before .before .before .before .before .before .before .before .before .before .octets .last .1 .1 .0) (c .before .before .before .before .before .before .before .before .before .before .before .before .before .before .before .before .buffer .ensures .0) (c .before .before .before .before .before .before .before .before .before .before .before .before .before .octets .ensures .1 .0) (c .before .before .before .before .before .before .before .before .before .before .before .if1 .left) (c .before .before .before .before .before .before .before .before .before .before .before .before .before .octets .ensures .1 .1 .0)) (pieces (crcWords (take (c .before .before .before .before .before .before .before .before .before .before .before .before .before .octets .result .count) (c .before .before .before .before .before .before .before .before .before .before .before .before .before .octets .last .1 .1 .0))) (cc (c .before .before .before .frame-check .ensures)) (c .before .before .before .before .before .before .before .before .word .ensures ⨟ c .before .before .number8 .ensures))
+returns-2 c = let a = c .before .before .before .before .before .before .before .before .before .before .before .before .before .args in
+    answered-by (crc-is (a .s .now) (c .before .before .before .before .before .before .before .before .before .behind .result) (c .before .before .before .before .before .before .before .before .before .behind .ensures) ∙ said-octets (a .s .now) (c .before .before .before .before .before .before .before .before .before .behind .result) (c .before .before .before .before .before .before .before .before .before .before .buffer .result) (c .before .before .before .before .before .before .before .octets .result) crcWords (c .before .before .before .before .before .before .before .octets .last .1 .1 .0) (c .before .before .before .before .before .before .before .before .before .before .buffer .ensures .0) (c .before .before .before .before .before .before .before .octets .ensures .1 .0) (c .before .before .before .before .before .if1 .left) (c .before .before .before .before .before .before .before .octets .ensures .1 .1 .0)) (c .before .before .put-crc .ensures)
 
 pub crc-spec : {M : Type 1} → statement M
 crc-spec =
@@ -61,11 +49,8 @@ crc-spec =
     slice-aggregate-octets
     octets-requires
     returns
-    slice-aggregate-word
-    word-requires
     array-share-prefix-data
-    slice-aggregate-frame-check
-    frame-check-requires
-    number8-requires
+    slice-aggregate-put-crc
+    put-crc-requires
     same-length
     returns-2)

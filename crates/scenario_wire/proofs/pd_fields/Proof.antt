@@ -27,8 +27,7 @@ word-requires-3 c κs = search needs
 
 returns : tie.Need-returns
 returns c = let a = c .before .before .before .before .before .before .before .before .before .args in
-    let k = pd-read (a .s .now) (a .counter) (c .before .before .before .before .before .before .before .common-fields .result) (c .before .before .before .before .before .number .result) (c .before .before .before .before .number2 .result) (c .before .before .before .number3 .result) (c .before .before .before .before .before .before .before .common-fields .ensures) (c .before .before .before .before .before .number .ensures) (c .before .before .before .before .number2 .ensures) (c .before .before .before .number3 .ensures) in
-    cc (k, c .before .before .word .ensures, c .before .word2 .ensures, c .word3 .ensures)
+    pd-read (a .s .now) (a .counter) (c .before .before .before .before .before .before .before .common-fields .result) (c .before .before .before .before .before .number .result) (c .before .before .before .before .number2 .result) (c .before .before .before .number3 .result) (c .before .before .before .before .before .before .before .common-fields .ensures) (c .before .before .before .before .before .number .ensures) (c .before .before .before .before .number2 .ensures) (c .before .before .before .number3 .ensures) (c .before .before .word .ensures) (c .before .word2 .ensures) (c .word3 .ensures)
 
 pub pd-fields-spec : {M : Type 1} → statement M
 pd-fields-spec =

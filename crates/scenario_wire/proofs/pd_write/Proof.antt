@@ -3,11 +3,13 @@ use mathlib.Core.Path.{ap, _∙_}
 use mathlib.Core.List.{List}
 use Prim.Native.Nat.{ℕ}
 use lib.ListN.{take}
+use Rattle.line.specs.Line.{four, targetOf}
+use Rattle.line.proofs.Fields.{target-of}
 use Rattle.answer.proofs.Rooms.{pieces}
 use Rattle.line.proofs.Said.{unsaid, said-octets}
 use Rattle.answer.proofs.Rooms.{not-answered, answered-by}
-use Rattle.scenario_wire.proofs.Wired.{pdwrite-is, target-of}
-use Rattle.scenario_wire.specs.Wire.{value4, targetOf, pdWroteWords}
+use Rattle.scenario_wire.proofs.Wired.{pdwrite-is}
+use Rattle.scenario_wire.specs.Wire.{pdWroteWords}
 use borrow.Author.Needs.{needs}
 use Rattle.scenario_wire.proofs.pd_write.Statement.{statement}
 use Rattle.scenario_wire.proofs.pd_write.Tie as tie
@@ -35,7 +37,7 @@ octets-requires c κs = search needs
 
 returns : tie.Need-returns
 returns c = let a = c .before .before .before .before .before .before .before .before .before .before .before .before .args in
-    not-answered ((pdwrite-is (a .s .now) (c .before .before .before .before .before .before .before .before .before .behind .result) (c .before .before .before .before .before .before .before .before .number .result) (c .before .before .before .before .before .before .before .pd-fields .result) (c .before .before .before .before .before .number2 .result) (c .before .before .before .before .before .before .before .before .before .behind .ensures) (c .before .before .before .before .before .before .before .before .number .ensures) (c .before .before .before .before .before .before .before .pd-fields .ensures) (c .before .before .before .before .before .number2 .ensures)) ∙ unsaid (a .s .now) (c .before .before .before .before .before .number2 .result) (c .before .before .before .before .buffer .result) (c .before .before .octets .result) (pdWroteWords (c .before .before .before .before .before .before .before .pd-fields .result .header) (targetOf (value4 (c .before .before .before .before .before .number2 .result)))) (c .before .before .before .before .buffer .ensures .0) (c .before .before .octets .ensures .1 .0) (c .if1 .taken)) (a .at) (a .out .now)
+    not-answered ((pdwrite-is (a .s .now) (c .before .before .before .before .before .before .before .before .before .behind .result) (c .before .before .before .before .before .before .before .before .number .result) (c .before .before .before .before .before .before .before .pd-fields .result) (c .before .before .before .before .before .number2 .result) (c .before .before .before .before .before .before .before .before .before .behind .ensures) (c .before .before .before .before .before .before .before .before .number .ensures) (c .before .before .before .before .before .before .before .pd-fields .ensures) (c .before .before .before .before .before .number2 .ensures)) ∙ unsaid (a .s .now) (c .before .before .before .before .before .number2 .result) (c .before .before .before .before .buffer .result) (c .before .before .octets .result) (pdWroteWords (c .before .before .before .before .before .before .before .pd-fields .result .header) (targetOf (four (c .before .before .before .before .before .number2 .result)))) (c .before .before .before .before .buffer .ensures .0) (c .before .before .octets .ensures .1 .0) (c .if1 .taken)) (a .at) (a .out .now)
 
 fresh-target-requires : tie.Need-fresh-target-requires
 fresh-target-requires c κs = search needs
@@ -68,7 +70,7 @@ returns-2 : tie.Need-returns-2
 returns-2 c = let a = c .before .before .before .before .before .before .before .before .before .before .before .before .before .before .before .before .before .before .before .before .before .before .args in
     let d : List ℕ = take (c .before .before .before .before .before .before .before .before .before .before .before .before .octets .result .count) (c .before .before .before .before .before .before .before .before .before .before .before .before .octets .last .1 .1 .0) in
     let e = target-of (c .before .before .before .before .before .before .before .before .before .fresh-target .result) (c .before .before .before .before .before .before .before .room-of .result) (c .before .before .before .before .before .before .before .before .before .before .before .before .before .before .before .number2 .result .value) (c .before .before .before .before .before .before .before .before .before .fresh-target .ensures .1) (c .before .before .before .before .before .before .before .room-of .ensures .1) in
-    answered-by ((pdwrite-is (a .s .now) (c .before .before .before .before .before .before .before .before .before .before .before .before .before .before .before .before .before .before .before .behind .result) (c .before .before .before .before .before .before .before .before .before .before .before .before .before .before .before .before .before .before .number .result) (c .before .before .before .before .before .before .before .before .before .before .before .before .before .before .before .before .before .pd-fields .result) (c .before .before .before .before .before .before .before .before .before .before .before .before .before .before .before .number2 .result) (c .before .before .before .before .before .before .before .before .before .before .before .before .before .before .before .before .before .before .before .behind .ensures) (c .before .before .before .before .before .before .before .before .before .before .before .before .before .before .before .before .before .before .number .ensures) (c .before .before .before .before .before .before .before .before .before .before .before .before .before .before .before .before .before .pd-fields .ensures) (c .before .before .before .before .before .before .before .before .before .before .before .before .before .before .before .number2 .ensures)) ∙ said-octets (a .s .now) (c .before .before .before .before .before .before .before .before .before .before .before .before .before .before .before .number2 .result) (c .before .before .before .before .before .before .before .before .before .before .before .before .before .before .buffer .result) (c .before .before .before .before .before .before .before .before .before .before .before .before .octets .result) (pdWroteWords (c .before .before .before .before .before .before .before .before .before .before .before .before .before .before .before .before .before .pd-fields .result .header) (targetOf (value4 (c .before .before .before .before .before .before .before .before .before .before .before .before .before .before .before .number2 .result)))) (c .before .before .before .before .before .before .before .before .before .before .before .before .octets .last .1 .1 .0) (c .before .before .before .before .before .before .before .before .before .before .before .before .before .before .buffer .ensures .0) (c .before .before .before .before .before .before .before .before .before .before .before .before .octets .ensures .1 .0) (c .before .before .before .before .before .before .before .before .before .before .if1 .left) (c .before .before .before .before .before .before .before .before .before .before .before .before .octets .ensures .1 .1 .0)) (pieces (pdWroteWords (c .before .before .before .before .before .before .before .before .before .before .before .before .before .before .before .before .before .pd-fields .result .header) (targetOf (value4 (c .before .before .before .before .before .before .before .before .before .before .before .before .before .before .before .number2 .result))) d) (ap (λ (t : List ℕ). pdWroteWords (c .before .before .before .before .before .before .before .before .before .before .before .before .before .before .before .before .before .pd-fields .result .header) t d) e) (c .before .before .before .write-pd .ensures))
+    answered-by ((pdwrite-is (a .s .now) (c .before .before .before .before .before .before .before .before .before .before .before .before .before .before .before .before .before .before .before .behind .result) (c .before .before .before .before .before .before .before .before .before .before .before .before .before .before .before .before .before .before .number .result) (c .before .before .before .before .before .before .before .before .before .before .before .before .before .before .before .before .before .pd-fields .result) (c .before .before .before .before .before .before .before .before .before .before .before .before .before .before .before .number2 .result) (c .before .before .before .before .before .before .before .before .before .before .before .before .before .before .before .before .before .before .before .behind .ensures) (c .before .before .before .before .before .before .before .before .before .before .before .before .before .before .before .before .before .before .number .ensures) (c .before .before .before .before .before .before .before .before .before .before .before .before .before .before .before .before .before .pd-fields .ensures) (c .before .before .before .before .before .before .before .before .before .before .before .before .before .before .before .number2 .ensures)) ∙ said-octets (a .s .now) (c .before .before .before .before .before .before .before .before .before .before .before .before .before .before .before .number2 .result) (c .before .before .before .before .before .before .before .before .before .before .before .before .before .before .buffer .result) (c .before .before .before .before .before .before .before .before .before .before .before .before .octets .result) (pdWroteWords (c .before .before .before .before .before .before .before .before .before .before .before .before .before .before .before .before .before .pd-fields .result .header) (targetOf (four (c .before .before .before .before .before .before .before .before .before .before .before .before .before .before .before .number2 .result)))) (c .before .before .before .before .before .before .before .before .before .before .before .before .octets .last .1 .1 .0) (c .before .before .before .before .before .before .before .before .before .before .before .before .before .before .buffer .ensures .0) (c .before .before .before .before .before .before .before .before .before .before .before .before .octets .ensures .1 .0) (c .before .before .before .before .before .before .before .before .before .before .if1 .left) (c .before .before .before .before .before .before .before .before .before .before .before .before .octets .ensures .1 .1 .0)) (pieces (pdWroteWords (c .before .before .before .before .before .before .before .before .before .before .before .before .before .before .before .before .before .pd-fields .result .header) (targetOf (four (c .before .before .before .before .before .before .before .before .before .before .before .before .before .before .before .number2 .result))) d) (ap (λ (t : List ℕ). pdWroteWords (c .before .before .before .before .before .before .before .before .before .before .before .before .before .before .before .before .before .pd-fields .result .header) t d) e) (c .before .before .before .write-pd .ensures))
 
 pub pd-write-spec : {M : Type 1} → statement M
 pd-write-spec =

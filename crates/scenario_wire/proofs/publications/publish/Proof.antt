@@ -4,7 +4,7 @@ use Rattle.publication.specs.Publication.{madeOf}
 use Rattle.answer.specs.Answer.{word}
 use Rattle.scenario_wire.specs.declared.publications.Held.the-variants.{Made}
 use Rattle.scenario_wire.proofs.Wired.{pub-made, pub-bad, publishes-some, publishes-none}
-use Rattle.scenario_wire.specs.Wire.{value8}
+use Rattle.line.specs.Line.{eight}
 use borrow.Author.Needs.{needs}
 use Rattle.scenario_wire.proofs.publications.publish.Statement.{statement}
 use Rattle.scenario_wire.proofs.publications.publish.Tie as tie
@@ -38,7 +38,7 @@ same-length c = search needs
 
 returns : tie.Need-returns
 returns c = let a = c .before .before .before .before .before .before .before .before .before .before .before .before .before .before .before .args in
-    publishes-some (record { words = word "ok"; held = Made (madeOf (c .before .before .before .before .before .before .before .before .before .before .before .pd-fields .result .header) (value8 (c .before .before .before .before .before .before .before .before .before .number .result))) }) (a .held) (a .at) (a .out .now) (record { held = Made (c .before .before .before .before .before .publish .result); at = c .before .before .word2 .result }) (c .before .before .word2 .last .0) (pub-made (a .s .now) (c .before .before .before .before .before .before .before .before .before .before .before .before .behind .result) (c .before .before .before .before .before .before .before .before .before .before .before .pd-fields .result) (c .before .before .before .before .before .before .before .before .before .number .result) (c .before .before .before .before .before .before .before .before .before .before .before .before .behind .ensures) (c .before .before .before .before .before .before .before .before .before .before .before .pd-fields .ensures) (c .before .before .before .before .before .before .before .before .before .number .ensures) (sym (c .before .before .before .before .before .before .before .before .is-end .ensures) ∙ c .before .before .before .before .before .before .before .if1 .taken)) (c .before .before .word2 .ensures) (ap Made (c .before .before .before .before .before .publish .ensures ∙ ap (madeOf (c .before .before .before .before .before .before .before .before .before .before .before .pd-fields .result .header)) (c .before .before .before .before .before .before .word .ensures)))
+    publishes-some (record { words = word "ok"; held = Made (madeOf (c .before .before .before .before .before .before .before .before .before .before .before .pd-fields .result .header) (eight (c .before .before .before .before .before .before .before .before .before .number .result))) }) (a .held) (a .at) (a .out .now) (record { held = Made (c .before .before .before .before .before .publish .result); at = c .before .before .word2 .result }) (c .before .before .word2 .last .0) (pub-made (a .s .now) (c .before .before .before .before .before .before .before .before .before .before .before .before .behind .result) (c .before .before .before .before .before .before .before .before .before .before .before .pd-fields .result) (c .before .before .before .before .before .before .before .before .before .number .result) (c .before .before .before .before .before .before .before .before .before .before .before .before .behind .ensures) (c .before .before .before .before .before .before .before .before .before .before .before .pd-fields .ensures) (c .before .before .before .before .before .before .before .before .before .number .ensures) (sym (c .before .before .before .before .before .before .before .before .is-end .ensures) ∙ c .before .before .before .before .before .before .before .if1 .taken)) (c .before .before .word2 .ensures) (ap Made (c .before .before .before .before .before .publish .ensures ∙ ap (madeOf (c .before .before .before .before .before .before .before .before .before .before .before .pd-fields .result .header)) (c .before .before .before .before .before .before .word .ensures)))
 
 returns-2 : tie.Need-returns-2
 returns-2 c = let a = c .before .before .before .before .before .before .before .before .args in

@@ -7,8 +7,9 @@ use lib.ListN.{take}
 use Rattle.scenario_wire.specs.declared.publications.Held.{Held}
 use Rattle.scenario_wire.specs.declared.publications.Held.the-variants.{Made}
 use Rattle.line.proofs.Said.{unsaid, said-octets}
-use Rattle.scenario_wire.proofs.Wired.{send-none, send-is, target-of, publishes-none, publishes-said}
-use Rattle.scenario_wire.specs.Wire.{value4, targetOf}
+use Rattle.scenario_wire.proofs.Wired.{send-none, send-is, publishes-none, publishes-said}
+use Rattle.line.specs.Line.{four, targetOf}
+use Rattle.line.proofs.Fields.{target-of}
 use Rattle.scenario_wire.specs.Publications.{sentSaid, sendSaid}
 use borrow.Author.Needs.{needs}
 use Rattle.scenario_wire.proofs.publications.send.Statement.{statement}
@@ -45,7 +46,7 @@ octets-requires c κs = search needs
 returns-2 : tie.Need-returns-2
 returns-2 c = let a = c .before .before .before .before .before .before .before .before .before .before .before .before .before .args in
     let p = c .before .before .before .before .before .before .before .before .before .held .given .0 .0 in
-    publishes-none ((ap (λ (h : Held). sendSaid h (a .s .now)) (c .before .before .before .before .before .before .before .before .before .held .given .1) ∙ send-is p (a .s .now) (c .before .before .before .before .before .before .before .behind .result) (c .before .before .before .before .before .before .number .result) (c .before .before .before .before .before .number2 .result) (c .before .before .before .before .before .before .before .behind .ensures) (c .before .before .before .before .before .before .number .ensures) (c .before .before .before .before .before .number2 .ensures)) ∙ unsaid (a .s .now) (c .before .before .before .before .before .number2 .result) (c .before .before .before .before .buffer .result) (c .before .before .octets .result) (sentSaid p (c .before .before .before .before .before .before .number .result .value) (targetOf (value4 (c .before .before .before .before .before .number2 .result)))) (c .before .before .before .before .buffer .ensures .0) (c .before .before .octets .ensures .1 .0) (c .if1 .taken)) (a .held) (Made p) (a .at) (a .out .now) (sym (c .before .before .before .before .before .before .before .before .before .held .given .1))
+    publishes-none ((ap (λ (h : Held). sendSaid h (a .s .now)) (c .before .before .before .before .before .before .before .before .before .held .given .1) ∙ send-is p (a .s .now) (c .before .before .before .before .before .before .before .behind .result) (c .before .before .before .before .before .before .number .result) (c .before .before .before .before .before .number2 .result) (c .before .before .before .before .before .before .before .behind .ensures) (c .before .before .before .before .before .before .number .ensures) (c .before .before .before .before .before .number2 .ensures)) ∙ unsaid (a .s .now) (c .before .before .before .before .before .number2 .result) (c .before .before .before .before .buffer .result) (c .before .before .octets .result) (sentSaid p (c .before .before .before .before .before .before .number .result .value) (targetOf (four (c .before .before .before .before .before .number2 .result)))) (c .before .before .before .before .buffer .ensures .0) (c .before .before .octets .ensures .1 .0) (c .if1 .taken)) (a .held) (Made p) (a .at) (a .out .now) (sym (c .before .before .before .before .before .before .before .before .before .held .given .1))
 
 fresh-target-requires : tie.Need-fresh-target-requires
 fresh-target-requires c κs = search needs
@@ -79,7 +80,7 @@ returns-3 c = let a = c .before .before .before .before .before .before .before 
     let p = c .before .before .before .before .before .before .before .before .before .before .before .before .before .before .before .before .before .before .before .held .given .0 .0 in
     let d : List ℕ = take (c .before .before .before .before .before .before .before .before .before .before .before .before .octets .result .count) (c .before .before .before .before .before .before .before .before .before .before .before .before .octets .last .1 .1 .0) in
     let e = target-of (c .before .before .before .before .before .before .before .before .before .fresh-target .result) (c .before .before .before .before .before .before .before .room-of .result) (c .before .before .before .before .before .before .before .before .before .before .before .before .before .before .before .number2 .result .value) (c .before .before .before .before .before .before .before .before .before .fresh-target .ensures .1) (c .before .before .before .before .before .before .before .room-of .ensures .1) in
-    let x = (ap (λ (h : Held). sendSaid h (a .s .now)) (c .before .before .before .before .before .before .before .before .before .before .before .before .before .before .before .before .before .before .before .held .given .1) ∙ send-is p (a .s .now) (c .before .before .before .before .before .before .before .before .before .before .before .before .before .before .before .before .before .behind .result) (c .before .before .before .before .before .before .before .before .before .before .before .before .before .before .before .before .number .result) (c .before .before .before .before .before .before .before .before .before .before .before .before .before .before .before .number2 .result) (c .before .before .before .before .before .before .before .before .before .before .before .before .before .before .before .before .before .behind .ensures) (c .before .before .before .before .before .before .before .before .before .before .before .before .before .before .before .before .number .ensures) (c .before .before .before .before .before .before .before .before .before .before .before .before .before .before .before .number2 .ensures)) ∙ said-octets (a .s .now) (c .before .before .before .before .before .before .before .before .before .before .before .before .before .before .before .number2 .result) (c .before .before .before .before .before .before .before .before .before .before .before .before .before .before .buffer .result) (c .before .before .before .before .before .before .before .before .before .before .before .before .octets .result) (sentSaid p (c .before .before .before .before .before .before .before .before .before .before .before .before .before .before .before .before .number .result .value) (targetOf (value4 (c .before .before .before .before .before .before .before .before .before .before .before .before .before .before .before .number2 .result)))) (c .before .before .before .before .before .before .before .before .before .before .before .before .octets .last .1 .1 .0) (c .before .before .before .before .before .before .before .before .before .before .before .before .before .before .buffer .ensures .0) (c .before .before .before .before .before .before .before .before .before .before .before .before .octets .ensures .1 .0) (c .before .before .before .before .before .before .before .before .before .before .if1 .left) (c .before .before .before .before .before .before .before .before .before .before .before .before .octets .ensures .1 .1 .0) in
+    let x = (ap (λ (h : Held). sendSaid h (a .s .now)) (c .before .before .before .before .before .before .before .before .before .before .before .before .before .before .before .before .before .before .before .held .given .1) ∙ send-is p (a .s .now) (c .before .before .before .before .before .before .before .before .before .before .before .before .before .before .before .before .before .behind .result) (c .before .before .before .before .before .before .before .before .before .before .before .before .before .before .before .before .number .result) (c .before .before .before .before .before .before .before .before .before .before .before .before .before .before .before .number2 .result) (c .before .before .before .before .before .before .before .before .before .before .before .before .before .before .before .before .before .behind .ensures) (c .before .before .before .before .before .before .before .before .before .before .before .before .before .before .before .before .number .ensures) (c .before .before .before .before .before .before .before .before .before .before .before .before .before .before .before .number2 .ensures)) ∙ said-octets (a .s .now) (c .before .before .before .before .before .before .before .before .before .before .before .before .before .before .before .number2 .result) (c .before .before .before .before .before .before .before .before .before .before .before .before .before .before .buffer .result) (c .before .before .before .before .before .before .before .before .before .before .before .before .octets .result) (sentSaid p (c .before .before .before .before .before .before .before .before .before .before .before .before .before .before .before .before .number .result .value) (targetOf (four (c .before .before .before .before .before .before .before .before .before .before .before .before .before .before .before .number2 .result)))) (c .before .before .before .before .before .before .before .before .before .before .before .before .octets .last .1 .1 .0) (c .before .before .before .before .before .before .before .before .before .before .before .before .before .before .buffer .ensures .0) (c .before .before .before .before .before .before .before .before .before .before .before .before .octets .ensures .1 .0) (c .before .before .before .before .before .before .before .before .before .before .if1 .left) (c .before .before .before .before .before .before .before .before .before .before .before .before .octets .ensures .1 .1 .0) in
     publishes-said (x ∙ ap (λ (t : List ℕ). some (sentSaid p (c .before .before .before .before .before .before .before .before .before .before .before .before .before .before .before .before .number .result .value) t d)) (sym e)) (a .held) (c .before .before .before .send-into .ensures)
 
 pub send-spec : {M : Type 1} → statement M
