@@ -25,10 +25,12 @@ use Rattle.subscription.specs.declared.Tally.{Tally}
 use Rattle.subscription.proofs.Fitting.{judged-fits}
 use Rattle.subscription.proofs.Lent.{fits-means}
 use Rattle.subscription.proofs.Stepping.{telegram-steps, clock-steps}
-use Rattle.subscriptions.specs.Sweep.{storeAfter, tallyAfter, noTally, Sweeps}
-use Rattle.subscriptions.specs.Calls.{Follows, meaning, markedBy}
-use Rattle.subscriptions.specs.declared.Swept.{Swept}
-use Rattle.subscriptions.specs.declared.Swept.the-variants.{Done, Refused}
+use Rattle.subscriptions.specs.Sweep.{storeAfter, tallyAfter, Sweeps}
+use Rattle.subscription_decisions.specs.Sweep.{noTally}
+use Rattle.subscriptions.specs.Calls.{Follows}
+use Rattle.subscription_decisions.specs.Calls.{meaning, markedBy}
+use Rattle.subscription_decisions.specs.declared.Swept.{Swept}
+use Rattle.subscription_decisions.specs.declared.Swept.the-variants.{Done, Refused}
 
 -- ---- the slots after an event that steps each of them by g
 

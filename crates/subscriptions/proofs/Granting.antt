@@ -17,10 +17,11 @@ use Rattle.subscription.specs.declared.Filter.{Filter}
 use Rattle.subscription.specs.declared.Subscription.{Subscription}
 use Rattle.subscription.proofs.Flat.{records-parts, store-parts, records-set, store-set}
 use Rattle.subscription.proofs.Lent.{fits-means}
-use Rattle.subscriptions.specs.declared.Found.{Found}
-use Rattle.subscriptions.specs.Calls.{Follows, meaning}
+use Rattle.subscription_decisions.specs.declared.Found.{Found}
+use Rattle.subscriptions.specs.Calls.{Follows}
+use Rattle.subscription_decisions.specs.Calls.{meaning}
 use Rattle.subscriptions.specs.Search.{foundOf, holding, isFree, foundIn}
-use Rattle.subscriptions.specs.Named.{noSlot, cleared, decided, denied}
+use Rattle.subscription_decisions.specs.Named.{noSlot, cleared, decided, denied}
 use Rattle.subscriptions.proofs.Slot.{zeroed}
 
 abbrev pub request : Filter → ℕ → ℕ → Request
