@@ -17,7 +17,7 @@ ghost use lib.ListN.{replicate};
 ghost use Rattle.line.specs.Answer.{Puts, refused};
 ghost use Rattle.subscription.specs.Record.{freeRecord};
 ghost use Rattle.subscription.specs.Table as table;
-ghost use Rattle.subscriptions.specs.Calls.{meaning};
+ghost use Rattle.subscription_decisions.specs.Calls.{meaning};
 ghost use Rattle.scenario_pd_words.specs.Words.{answerWords};
 ghost use Rattle.scenario_pd.specs.Effect.{withRecords, calling, counting, Turns};
 ghost use Rattle.scenario_pd.specs.Lines.{subCall, unsubCall, checkCall, pdCall, lending, allotted, damaging, damaged, otherEffect, Answered};

@@ -2,7 +2,7 @@
 use crate::Slots;
 use line::answer;
 use subscription::Subscription;
-use subscriptions::Reading;
+use subscription_decisions::Reading;
 ghost use mathlib.Core.Path.{_≡_};
 ghost use lib.ListN.{getD};
 ghost use Rattle.line.specs.Answer.{Puts, Answers};

@@ -3,9 +3,9 @@ use line::answer;
 use subscription::LastTaken;
 use subscription::State;
 use subscription::Subscription;
-use subscriptions::Answer;
+use subscription_decisions::Answer;
 ghost use Rattle.line.specs.Answer.{Puts};
-ghost use Rattle.subscriptions.specs.Calls.{meaning};
+ghost use Rattle.subscription_decisions.specs.Calls.{meaning};
 ghost use Rattle.scenario_pd_words.specs.Words.{answerWords, stateWords, grantedWords, lastWords, recordWords};
 
 // An answer; of a refusal its number.

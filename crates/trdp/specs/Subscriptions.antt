@@ -15,10 +15,10 @@ use Rattle.subscription.specs.Table.{Call, fits, step, telegram, read}
 use Rattle.subscription.specs.declared.State.{State}
 use Rattle.subscription.specs.declared.State.the-variants.{NeverReceived, Valid, TimedOut}
 use Rattle.subscription.specs.declared.Subscription.{Subscription}
-use Rattle.subscriptions.specs.Read.{readBy}
+use Rattle.subscription_decisions.specs.Read.{readBy}
 use Rattle.subscriptions.specs.Receive.{recorded}
-use Rattle.subscriptions.specs.declared.Reading.{Reading}
-use Rattle.subscriptions.specs.declared.Reading.the-variants.{Shows, Refused}
+use Rattle.subscription_decisions.specs.declared.Reading.{Reading}
+use Rattle.subscription_decisions.specs.declared.Reading.the-variants.{Shows, Refused}
 use Rattle.trdp.specs.declared.Outcome.{Outcome}
 use Rattle.trdp.specs.declared.Shown.{Shown}
 use Rattle.trdp.specs.Wire.{granted, refused}
