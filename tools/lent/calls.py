@@ -10,7 +10,7 @@ use Rattle.subscription.specs.declared.Filter.{Filter}
 use Rattle.arrival.specs.declared.Arrival.{Arrival}
 use Rattle.statistics.specs.declared.Statistics.{Statistics}
 use Rattle.statistics.proofs.Values.{statisticsBy}
-use Rattle.subscription.specs.Table.{timeCheck, subscribe, unsubscribe}
+use Rattle.subscription_table.specs.Table.{timeCheck, subscribe, unsubscribe}
 use Rattle.subscription_decisions.specs.declared.Answer.{Answer}
 use Rattle.subscription_decisions.specs.declared.Reading.{Reading}
 use Rattle.subscriptions.specs.Calls.{Follows}

@@ -8,13 +8,13 @@ none={'Subscription':'freeRecord'}
 uses_specs='''use Rattle.subscriptions.proofs.Values.{subscriptionBy, eventBy, tallyBy, steppedBy, filterBy, sweptBy, answerBy, releasedBy, foundBy, arrivalBy, readingBy}
 use Rattle.subscription.specs.Record.{freeRecord, unsound, grantedRecord}
 use mathlib.Core.Bool.{not, cond}
-use Rattle.subscription.specs.Table.{fits, timeCheck, subscribe, unsubscribe, telegram}
+use Rattle.subscription_table.specs.Table.{fits, timeCheck, subscribe, unsubscribe, telegram}
 use Rattle.subscription.specs.declared.Subscription.{Subscription}
 use Rattle.subscription.specs.declared.Event.{Event}
 use Rattle.subscription.specs.declared.Event.the-variants.{Clock, Telegram}
 use lib.Dec.{eqb}
 use Rattle.refusal.specs.Refusal.{firstOf}
-use Rattle.subscription.specs.Slot.{pdChecks, heardOf}
+use Rattle.subscription_table.specs.Slot.{pdChecks, heardOf}
 use Rattle.arrival.specs.declared.Arrival.{Arrival}
 use Rattle.subscription_decisions.specs.declared.Answer.the-variants.{Refused}
 use Rattle.subscriptions.proofs.Arriving.{payload, has-header, has-dataset, payload-length, dataset-ends, dataset-counts, refused-follows, received-follows}

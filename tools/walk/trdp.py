@@ -22,7 +22,7 @@ use Rattle.trdp.proofs.Messages.{received}
 use Rattle.statistics.specs.declared.Statistics.{Statistics}
 use Rattle.arrival.specs.declared.Arrival.{Arrival}
 use Rattle.subscription.specs.Record.{freeRecord}
-use Rattle.subscription.specs.Table.{fits, timeCheck, subscribe, unsubscribe, telegram}
+use Rattle.subscription_table.specs.Table.{fits, timeCheck, subscribe, unsubscribe, telegram}
 use Rattle.subscription.specs.declared.Subscription.{Subscription}
 use Rattle.subscription.specs.declared.Filter.{Filter}
 use Rattle.subscription_decisions.specs.declared.Answer.{Answer}

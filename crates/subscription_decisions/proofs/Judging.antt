@@ -16,7 +16,7 @@ use Rattle.pd.specs.declared.PdHeader.{PdHeader}
 use Rattle.pd.specs.declared.PdTaken.{PdTaken}
 use Rattle.pd.specs.declared.PdTaken.the-variants as taken
 use Rattle.pd.specs.declared.PdTaken.the-variants.{Header}
-use Rattle.subscription.specs.Slot.{pdChecks}
+use Rattle.subscription_table.specs.Slot.{pdChecks}
 use Rattle.arrival.specs.declared.Arrival.{Arrival}
 
 -- 0 where the counters pass, else 7

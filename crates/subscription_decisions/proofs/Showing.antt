@@ -10,10 +10,10 @@ use lib.ListN.{length, drop}
 use lib.Seq.{take-nil}
 use borrow.Author.Tests.{ltb-false, leb-false}
 use Rattle.octets.specs.Octets.{part}
-use Rattle.subscription.specs.Slot.{slotOctets}
-use Rattle.subscription.specs.Table.{fits}
+use Rattle.subscription_table.specs.Slot.{slotOctets}
+use Rattle.subscription_table.specs.Table.{fits}
 use Rattle.subscription.specs.declared.Subscription.{Subscription}
-use Rattle.subscription.proofs.Lent.{fits-means}
+use Rattle.subscription_table.proofs.Lent.{fits-means}
 use Rattle.subscription.specs.Step.{storedAt, shownAt}
 use Rattle.subscription_decisions.specs.declared.View.{View}
 use Rattle.subscription_decisions.specs.declared.Reading.{Reading}

@@ -4,7 +4,7 @@ use mathlib.Core.Bool.{cond}
 use lib.Dec.{ltb}
 use Rattle.telegram.specs.Telegram.{commonOf}
 use mathlib.Core.List.{List}
-use Rattle.subscription.specs.Table as table
+use Rattle.subscription_table.specs.Table as table
 use Rattle.subscription_decisions.specs.declared.Swept.{Swept}
 use Rattle.subscription_decisions.specs.declared.Swept.the-variants as swept
 use Rattle.subscription_decisions.specs.declared.Answer.{Answer}

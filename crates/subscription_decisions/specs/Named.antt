@@ -6,8 +6,8 @@ use lib.Dec.{leb}
 use lib.ListN.{replicate}
 use Rattle.octets.specs.Octets.{put}
 use Rattle.subscription.specs.Record.{freeRecord}
-use Rattle.subscription.specs.Slot.{slotOctets}
-use Rattle.subscription.specs.Table.{fits}
+use Rattle.subscription_table.specs.Slot.{slotOctets}
+use Rattle.subscription_table.specs.Table.{fits}
 use Rattle.subscription.specs.declared.Subscription.{Subscription}
 use Rattle.subscription_decisions.specs.declared.Released.{Released}
 use Rattle.subscription_decisions.specs.declared.Found.{Found}

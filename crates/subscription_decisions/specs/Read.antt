@@ -5,8 +5,8 @@ use mathlib.Core.Bool.{Bool, cond}
 use lib.Dec.{ltb}
 use Rattle.octets.specs.Octets.{part}
 use Rattle.subscription.specs.Record.{stateOf, substitutes}
-use Rattle.subscription.specs.Slot.{slotOctets}
-use Rattle.subscription.specs.Table as table
+use Rattle.subscription_table.specs.Slot.{slotOctets}
+use Rattle.subscription_table.specs.Table as table
 use Rattle.subscription.specs.declared.Subscription.{Subscription}
 use Rattle.subscription_decisions.specs.declared.Reading.{Reading}
 use Rattle.subscription_decisions.specs.declared.Reading.the-variants.{Shows, Refused}

@@ -3,7 +3,7 @@ use Prim.Native.Nat.{ℕ}
 use mathlib.Core.Bool.{Bool, true, false}
 use lib.Dec.{eqb}
 use Rattle.refusal.specs.Refusal.{sizes}
-use Rattle.subscription.specs.Table.{Answer, granted, freed, delivered, marked, shows, refused}
+use Rattle.subscription_table.specs.Table.{Answer, granted, freed, delivered, marked, shows, refused}
 
 -- refusal 1 counts nothing; nor does an answer that is no telegram's
 abbrev pub uncounted : Answer → Bool

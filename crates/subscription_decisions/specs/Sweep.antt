@@ -6,7 +6,7 @@ use Rattle.subscription.specs.declared.Subscription.{Subscription}
 use Rattle.subscription.specs.declared.Tally.{Tally}
 use Rattle.octets.specs.Octets.{part, put}
 use Rattle.subscription.specs.Step.{partAfter}
-use Rattle.subscription.specs.Slot.{slotOctets}
+use Rattle.subscription_table.specs.Slot.{slotOctets}
 
 abbrev pub noTally : Tally
 noTally = record { matched = 0; changed = 0 }

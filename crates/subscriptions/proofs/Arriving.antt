@@ -15,14 +15,14 @@ use Rattle.telegram.specs.Telegram.{commonOf, checks, datasetOf}
 use Rattle.telegram.specs.declared.Family.the-variants as family
 use Rattle.telegram.proofs.Reading.{sound, whole}
 use Rattle.arrival.specs.Arrival.{topographyCheck}
-use Rattle.subscription.specs.Slot.{refusal, passed, judged, pdChecks, heardOf}
-use Rattle.subscription.specs.Table.{fits, telegram, deliveredTo, slots, step}
+use Rattle.subscription_table.specs.Slot.{refusal, passed, judged, pdChecks, heardOf}
+use Rattle.subscription_table.specs.Table.{fits, telegram, deliveredTo, slots, step}
 use Rattle.arrival.specs.declared.Arrival.{Arrival}
 use Rattle.subscription.specs.declared.Event.the-variants.{Telegram}
 use Rattle.subscription.specs.declared.Heard.{Heard}
 use Rattle.subscription.specs.declared.Subscription.{Subscription}
-use Rattle.subscription.proofs.Flat.{records-parts, store-parts}
-use Rattle.subscription.proofs.Lent.{fits-means}
+use Rattle.subscription_table.proofs.Flat.{records-parts, store-parts}
+use Rattle.subscription_table.proofs.Lent.{fits-means}
 use Rattle.subscription_decisions.specs.declared.Swept.{Swept}
 use Rattle.subscription_decisions.specs.declared.Swept.the-variants.{Done, Refused}
 use Rattle.subscription_decisions.specs.declared.Answer.the-variants as answer

@@ -26,7 +26,7 @@ use denote.Triple.Clauses.{ensured, lasts}
 use Rattle.walks.proofs.ByValue.{unsignedInt}
 use Rattle.walks.proofs.Steps.{Call, both-lent, slice-lent, shr-lent, pair-is}
 use Rattle.subscriptions.proofs.Values.{subscriptionBy, answerBy, arrivalBy}
-use Rattle.subscription.specs.Table.{telegram}
+use Rattle.subscription_table.specs.Table.{telegram}
 use Rattle.subscription.specs.declared.Subscription.{Subscription}
 use Rattle.arrival.specs.declared.Arrival.{Arrival}
 use Rattle.subscriptions.proofs.Recording.{deliveredAnswer, deliveredRecords, deliveredStore, answered}

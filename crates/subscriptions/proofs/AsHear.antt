@@ -29,7 +29,7 @@ use Rattle.walks.proofs.Steps.{Call, shr-lent}
 use Rattle.subscriptions.proofs.Values.{eventBy, arrivalBy}
 use Rattle.subscription.specs.declared.Event.{Event}
 use Rattle.subscription.specs.declared.Event.the-variants.{Telegram}
-use Rattle.subscription.specs.Slot.{heardOf}
+use Rattle.subscription_table.specs.Slot.{heardOf}
 use Rattle.arrival.specs.declared.Arrival.{Arrival}
 use Rattle.subscription_decisions.proofs.hear as callee
 use Rattle.subscription_decisions.proofs.hear.Symbol.{name as #g}

@@ -24,7 +24,7 @@ use denote.Triple.Clauses.{ensured, lasts}
 use Rattle.walks.proofs.ByValue.{unsignedInt, boolean}
 use Rattle.walks.proofs.Steps.{Call, none-lent}
 use mathlib.Core.Bool.{not}
-use Rattle.subscription.specs.Table.{fits}
+use Rattle.subscription_table.specs.Table.{fits}
 use Rattle.subscription_decisions.proofs.is_unfit as callee
 use Rattle.subscription_decisions.proofs.is_unfit.Symbol.{name as #g}
 

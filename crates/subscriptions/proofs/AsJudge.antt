@@ -26,7 +26,7 @@ use Rattle.walks.proofs.ByValue.{unsignedInt}
 use Rattle.walks.proofs.Steps.{Call, shr-lent}
 use Rattle.subscriptions.proofs.Values.{arrivalBy}
 use Rattle.refusal.specs.Refusal.{firstOf}
-use Rattle.subscription.specs.Slot.{pdChecks}
+use Rattle.subscription_table.specs.Slot.{pdChecks}
 use Rattle.arrival.specs.declared.Arrival.{Arrival}
 use Rattle.subscription_decisions.proofs.judge as callee
 use Rattle.subscription_decisions.proofs.judge.Symbol.{name as #g}

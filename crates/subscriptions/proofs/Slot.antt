@@ -13,11 +13,11 @@ use borrow.Author.Tests.{leb-true, leb-false}
 use Rattle.octets.specs.Octets.{put}
 use Rattle.tables.specs.Lists.{atSlot}
 use Rattle.subscription.specs.Record.{freeRecord}
-use Rattle.subscription.specs.Slot.{Cell, slotOctets, freeCell}
-use Rattle.subscription.specs.Table.{Table, fits, parts, records, store, unsubscribe, unsubscribed, slots, step}
+use Rattle.subscription_table.specs.Slot.{Cell, slotOctets, freeCell}
+use Rattle.subscription_table.specs.Table.{Table, fits, parts, records, store, unsubscribe, unsubscribed, slots, step}
 use Rattle.subscription.specs.declared.Subscription.{Subscription}
-use Rattle.subscription.proofs.Flat.{records-parts, store-parts, named-flat}
-use Rattle.subscription.proofs.Lent.{fits-means}
+use Rattle.subscription_table.proofs.Flat.{records-parts, store-parts, named-flat}
+use Rattle.subscription_table.proofs.Lent.{fits-means}
 use Rattle.subscriptions.specs.Calls.{Follows}
 use Rattle.subscription_decisions.specs.Calls.{meaning}
 use Rattle.subscription_decisions.specs.Named.{away, noSlot, cleared, releasedOf, releasedStore}

@@ -13,13 +13,13 @@ use borrow.Author.Tests.{ltb-true, ltb-false}
 use Rattle.octets.specs.Octets.{part, put}
 use Rattle.octets.proofs.Parts.{part-length, put-mid}
 use Rattle.subscription.specs.Record.{freeRecord}
-use Rattle.subscription.specs.Slot.{slotOctets}
+use Rattle.subscription_table.specs.Slot.{slotOctets}
 use Rattle.subscription.specs.Step.{recordAfter, partAfter, changes, reaches, concerns, tallied, Room}
-use Rattle.subscription.specs.Table.{fits}
+use Rattle.subscription_table.specs.Table.{fits}
 use Rattle.subscription.specs.declared.Event.{Event}
 use Rattle.subscription.specs.declared.Subscription.{Subscription}
 use Rattle.subscription.specs.declared.Tally.{Tally}
-use Rattle.subscription.proofs.Lent.{fits-means}
+use Rattle.subscription_table.proofs.Lent.{fits-means}
 use Rattle.subscription.proofs.Stepping.{one-small, record-stays, part-stays, tally-stays}
 use Rattle.subscriptions.specs.Sweep.{storeAfter, tallyAfter, nextConcerned, Sweeps}
 use Rattle.subscription_decisions.specs.Sweep.{noTally, storeStepped}

@@ -10,10 +10,10 @@ use lib.Seq.{take-take}
 use borrow.Author.Tests.{ltb-true, ltb-false}
 use Rattle.tables.specs.Lists.{atSlot}
 use Rattle.subscription.specs.Record.{freeRecord}
-use Rattle.subscription.specs.Slot.{Cell, slotOctets, freeCell, shown as cellShows, overlong}
-use Rattle.subscription.specs.Table.{read, reading, fits, parts, slots, step}
+use Rattle.subscription_table.specs.Slot.{Cell, slotOctets, freeCell, shown as cellShows, overlong}
+use Rattle.subscription_table.specs.Table.{read, reading, fits, parts, slots, step}
 use Rattle.subscription.specs.declared.Subscription.{Subscription}
-use Rattle.subscription.proofs.Flat.{parts-at}
+use Rattle.subscription_table.proofs.Flat.{parts-at}
 use Rattle.subscriptions.specs.Read.{Reads}
 use Rattle.subscription_decisions.specs.Read.{readBy, shown}
 use Rattle.subscriptions.proofs.Slot.{past, length-parts}

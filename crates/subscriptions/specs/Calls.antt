@@ -3,8 +3,8 @@ use Prim.Native.Nat.{ℕ}
 use mathlib.Core.Path.{_≡_}
 use mathlib.Core.List.{List}
 use Rattle.subscription.specs.declared.Subscription.{Subscription}
-use Rattle.subscription.specs.Table as table
-use Rattle.subscription.specs.Table.{Call, step}
+use Rattle.subscription_table.specs.Table as table
+use Rattle.subscription_table.specs.Table.{Call, step}
 
 -- a call over lent records and store
 pub record Follows (c : Call) (records : List Subscription) (store : List ℕ) (answer : table.Answer) (records′ : List Subscription) (store′ : List ℕ) : Type 0 where

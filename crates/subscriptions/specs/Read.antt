@@ -2,8 +2,8 @@
 use Prim.Native.Nat.{ℕ}
 use mathlib.Core.Path.{_≡_}
 use mathlib.Core.List.{List}
-use Rattle.subscription.specs.Table as table
-use Rattle.subscription.specs.Table.{step}
+use Rattle.subscription_table.specs.Table as table
+use Rattle.subscription_table.specs.Table.{step}
 use Rattle.subscription.specs.declared.Subscription.{Subscription}
 use Rattle.subscription_decisions.specs.declared.Reading.{Reading}
 use Rattle.subscription_decisions.specs.Read.{shown}

@@ -8,7 +8,7 @@ use Rattle.arrival.specs.declared.Arrival.{Arrival}
 use Rattle.statistics.specs.declared.Statistics.{Statistics}
 use Rattle.statistics.specs.Statistics.{added, Arrived}
 use Rattle.subscription.specs.declared.Subscription.{Subscription}
-use Rattle.subscription.specs.Table.{Call, subscribe, unsubscribe, telegram, timeCheck, read, Answer, Table, step}
+use Rattle.subscription_table.specs.Table.{Call, subscribe, unsubscribe, telegram, timeCheck, read, Answer, Table, step}
 use Rattle.subscription_decisions.specs.Receive.{uncounted, outcomeOf}
 
 -- one for received and one for the outcome

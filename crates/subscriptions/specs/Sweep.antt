@@ -8,8 +8,8 @@ use Rattle.subscription.specs.declared.Event.{Event}
 use Rattle.subscription.specs.declared.Subscription.{Subscription}
 use Rattle.subscription.specs.declared.Tally.{Tally}
 use Rattle.subscription.specs.Step.{concerns, recordAfter, partAfter, tallied}
-use Rattle.subscription.specs.Slot.{slotOctets}
-use Rattle.subscription.specs.Table.{fits}
+use Rattle.subscription_table.specs.Slot.{slotOctets}
+use Rattle.subscription_table.specs.Table.{fits}
 use Rattle.subscription_decisions.specs.declared.Swept.{Swept}
 use Rattle.subscription_decisions.specs.declared.Swept.the-variants.{Done, Refused}
 use Rattle.subscription_decisions.specs.Sweep.{noTally}

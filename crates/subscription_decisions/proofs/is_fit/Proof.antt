@@ -1,8 +1,8 @@
 -- Each size has its test.
 use borrow.Author.Needs.{needs}
 use Rattle.refusal.proofs.Tests.{tests}
-use Rattle.subscription.specs.Slot.{slotOctets}
-use Rattle.subscription.specs.Table.{fits}
+use Rattle.subscription_table.specs.Slot.{slotOctets}
+use Rattle.subscription_table.specs.Table.{fits}
 use Rattle.subscription_decisions.proofs.is_fit.Statement.{statement}
 use Rattle.subscription_decisions.proofs.is_fit.Tie as tie
 

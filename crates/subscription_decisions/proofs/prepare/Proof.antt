@@ -1,6 +1,6 @@
 -- The part is cleared, and the record made.
 use borrow.Author.Needs.{needs}
-use Rattle.subscription.specs.Slot.{slotOctets}
+use Rattle.subscription_table.specs.Slot.{slotOctets}
 use Rattle.subscription_decisions.proofs.prepare.Statement.{statement}
 use Rattle.subscription_decisions.proofs.prepare.Tie as tie
 

@@ -2,7 +2,7 @@
 use Prim.Native.Nat.{_<_, _≤_}
 use borrow.Author.Needs.{needs}
 use borrow.Author.Tests.{lt-ltb, le-ltb}
-use Rattle.subscription.specs.Slot.{slotOctets}
+use Rattle.subscription_table.specs.Slot.{slotOctets}
 use Rattle.subscription_decisions.proofs.read_record.Statement.{statement}
 use Rattle.subscription_decisions.proofs.read_record.Tie as tie
 

@@ -1,7 +1,7 @@
 -- A slot in use gives up its record and its part.
 use mathlib.Core.Path.{refl}
 use borrow.Author.Needs.{needs}
-use Rattle.subscription.specs.Slot.{slotOctets}
+use Rattle.subscription_table.specs.Slot.{slotOctets}
 use Rattle.subscription_decisions.proofs.release.Statement.{statement}
 use Rattle.subscription_decisions.proofs.release.Tie as tie
 

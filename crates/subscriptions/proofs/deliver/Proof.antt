@@ -76,12 +76,12 @@ use Rattle.subscription_decisions.proofs.delivered.Symbol.{name as #delivered}
 use Rattle.subscription_decisions.proofs.delivered.Met as delivered-thm
 use Rattle.subscriptions.proofs.Values.{subscriptionBy, eventBy, sweptBy, answerBy, arrivalBy}
 use mathlib.Core.Bool.{not}
-use Rattle.subscription.specs.Table.{fits, telegram}
+use Rattle.subscription_table.specs.Table.{fits, telegram}
 use Rattle.subscription.specs.declared.Subscription.{Subscription}
 use Rattle.subscription.specs.declared.Event.the-variants.{Telegram}
 use lib.Dec.{eqb}
 use Rattle.refusal.specs.Refusal.{firstOf}
-use Rattle.subscription.specs.Slot.{pdChecks, heardOf}
+use Rattle.subscription_table.specs.Slot.{pdChecks, heardOf}
 use Rattle.arrival.specs.declared.Arrival.{Arrival}
 use Rattle.subscription_decisions.specs.declared.Answer.the-variants.{Refused}
 use Rattle.subscriptions.proofs.Arriving.{payload, has-header, payload-length, dataset-ends, dataset-counts, refused-follows, received-follows}

@@ -48,7 +48,7 @@ use Rattle.subscription_decisions.proofs.bound.Met as bound-thm
 use Rattle.subscriptions.proofs.Values.{subscriptionBy, eventBy}
 use Rattle.subscription.specs.Record.{freeRecord}
 use mathlib.Core.Bool.{cond}
-use Rattle.subscription.specs.Table.{fits}
+use Rattle.subscription_table.specs.Table.{fits}
 use Rattle.subscription.specs.declared.Subscription.{Subscription}
 use Rattle.subscription.specs.declared.Event.{Event}
 use Rattle.subscription.specs.Step.{concerns}

@@ -47,7 +47,7 @@ use Rattle.subscription_decisions.proofs.read_record.Symbol.{name as #read-reco
 use Rattle.subscription_decisions.proofs.read_record.Met as read-record-thm
 use Rattle.subscriptions.proofs.Values.{subscriptionBy, readingBy}
 use Rattle.subscription.specs.Record.{freeRecord}
-use Rattle.subscription.specs.Table.{fits}
+use Rattle.subscription_table.specs.Table.{fits}
 use Rattle.subscription.specs.declared.Subscription.{Subscription}
 use Rattle.subscription_decisions.specs.declared.Reading.{Reading}
 use Rattle.subscriptions.specs.Read.{Reads}

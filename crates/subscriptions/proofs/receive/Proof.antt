@@ -56,7 +56,7 @@ use Rattle.statistics.proofs.record.Symbol as record-def
 use Rattle.statistics.proofs.record.Symbol.{name as #record}
 use Rattle.statistics.proofs.record.Met as record-thm
 use Rattle.subscriptions.proofs.Values.{subscriptionBy, answerBy, arrivalBy}
-use Rattle.subscription.specs.Table.{fits}
+use Rattle.subscription_table.specs.Table.{fits}
 use Rattle.subscription.specs.declared.Subscription.{Subscription}
 use Rattle.arrival.specs.declared.Arrival.{Arrival}
 use Rattle.statistics.proofs.Values.{statisticsBy, familyBy}

@@ -51,7 +51,7 @@ use Rattle.subscription_decisions.proofs.look.Symbol.{name as #look}
 use Rattle.subscription_decisions.proofs.look.Met as look-thm
 use Rattle.subscriptions.proofs.Values.{subscriptionBy, filterBy, foundBy}
 use Rattle.subscription.specs.Record.{freeRecord}
-use Rattle.subscription.specs.Table.{fits}
+use Rattle.subscription_table.specs.Table.{fits}
 use Rattle.subscription.specs.declared.Subscription.{Subscription}
 use Rattle.subscription.specs.declared.Filter.{Filter}
 use Rattle.subscription_decisions.specs.declared.Found.{Found}

@@ -40,7 +40,7 @@ use denote.Exit.{yes}
 use Rattle.walks.proofs.ByValue.{unsignedInt}
 use Rattle.walks.proofs.Steps.{shr-lent, shr-own, asks, frees-all}
 use Rattle.subscription.specs.Record.{freeRecord}
-use Rattle.subscription.specs.Table.{fits, read, step}
+use Rattle.subscription_table.specs.Table.{fits, read, step}
 use Rattle.subscription.specs.declared.Subscription.{Subscription}
 use Rattle.subscription.proofs.Subscription as X
 use Rattle.subscription.proofs.Subscription.Laws as X′

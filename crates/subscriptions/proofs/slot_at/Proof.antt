@@ -47,7 +47,7 @@ use Rattle.subscription.proofs.free.Symbol.{name as #free}
 use Rattle.subscription.proofs.free.Met as free-thm
 use Rattle.subscriptions.proofs.Values.{subscriptionBy}
 use Rattle.subscription.specs.Record.{freeRecord}
-use Rattle.subscription.specs.Table.{fits}
+use Rattle.subscription_table.specs.Table.{fits}
 use Rattle.subscription.specs.declared.Subscription.{Subscription}
 use Rattle.subscriptions.proofs.Viewing.{not-there}
 use Rattle.subscription.proofs.Subscription as X

@@ -67,7 +67,7 @@ use Rattle.subscription_decisions.proofs.prepare.Met as prepare-thm
 use Rattle.subscriptions.proofs.Values.{subscriptionBy, filterBy, answerBy, foundBy}
 use Rattle.subscription.specs.Record.{freeRecord, unsound, grantedRecord}
 use mathlib.Core.Bool.{not}
-use Rattle.subscription.specs.Table.{fits, subscribe}
+use Rattle.subscription_table.specs.Table.{fits, subscribe}
 use Rattle.subscription.specs.declared.Subscription.{Subscription}
 use Rattle.subscription.specs.declared.Filter.{Filter}
 use Rattle.subscription_decisions.specs.declared.Answer.{Answer}

@@ -69,7 +69,7 @@ use Rattle.subscription_decisions.proofs.done.Met as done-thm
 use Rattle.subscriptions.proofs.Values.{subscriptionBy, eventBy, tallyBy, steppedBy, sweptBy}
 use Rattle.subscription.specs.Record.{freeRecord}
 use mathlib.Core.Bool.{not}
-use Rattle.subscription.specs.Table.{fits}
+use Rattle.subscription_table.specs.Table.{fits}
 use Rattle.subscription.specs.declared.Subscription.{Subscription}
 use Rattle.subscription.specs.declared.Event.{Event}
 use Rattle.subscription_decisions.specs.declared.Swept.{Swept}

@@ -51,7 +51,7 @@ use Rattle.subscription_decisions.proofs.marked.Symbol as marked-def
 use Rattle.subscription_decisions.proofs.marked.Symbol.{name as #marked}
 use Rattle.subscription_decisions.proofs.marked.Met as marked-thm
 use Rattle.subscriptions.proofs.Values.{subscriptionBy, eventBy, sweptBy, answerBy}
-use Rattle.subscription.specs.Table.{fits, timeCheck}
+use Rattle.subscription_table.specs.Table.{fits, timeCheck}
 use Rattle.subscription.specs.declared.Subscription.{Subscription}
 use Rattle.subscription.specs.declared.Event.the-variants.{Clock}
 use Rattle.subscription_decisions.specs.declared.Answer.{Answer}

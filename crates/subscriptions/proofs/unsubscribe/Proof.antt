@@ -54,7 +54,7 @@ use Rattle.subscription_decisions.proofs.release.Symbol.{name as #release}
 use Rattle.subscription_decisions.proofs.release.Met as release-thm
 use Rattle.subscriptions.proofs.Values.{subscriptionBy, answerBy, releasedBy}
 use Rattle.subscription.specs.Record.{freeRecord}
-use Rattle.subscription.specs.Table.{fits, unsubscribe}
+use Rattle.subscription_table.specs.Table.{fits, unsubscribe}
 use Rattle.subscription.specs.declared.Subscription.{Subscription}
 use Rattle.subscription_decisions.specs.declared.Answer.{Answer}
 use Rattle.subscriptions.specs.Calls.{Follows}

@@ -6,15 +6,15 @@ use Prim.Native.Nat.{ℕ}
 use native.Mathlib.Omega.{arith}
 use lib.Dec.{lit≤}
 use lib.ListN.{length, replicate, length-append, length-drop, length-replicate}
 use Rattle.subscription.specs.declared.Heard.{Heard}
 use Rattle.subscription.specs.declared.Filter.{Filter}
 use Rattle.tables.specs.Lists.{atSlot}
-use Rattle.subscription.specs.Slot.{Judged, refusal, passed, judged, Request, Cell, slotOctets, freeCell, grantedCell, wants, takes, deliver, due, mark}
-use Rattle.subscription.specs.Table.{Call, arriving, holds, slots, lent, lentAfter, step}
-use Rattle.subscription.specs.Alone.{Fed, arrived, checked, asked, own, Slot, free, held, alone, only, isFree, grantedSame, reached}
+use Rattle.subscription_table.specs.Slot.{Judged, refusal, passed, judged, Request, Cell, slotOctets, freeCell, grantedCell, wants, takes, deliver, due, mark}
+use Rattle.subscription_table.specs.Table.{Call, arriving, holds, slots, lent, lentAfter, step}
+use Rattle.subscription_table.specs.Alone.{Fed, arrived, checked, asked, own, Slot, free, held, alone, only, isFree, grantedSame, reached}
 use Rattle.subscription.specs.Record.{zeroes}
-use Rattle.subscription.proofs.Lent.{step-lent}
-use Rattle.subscription.proofs.Fitting.{judged-fits}
+use Rattle.subscription_table.proofs.Lent.{step-lent}
+use Rattle.subscription_table.proofs.Fitting.{judged-fits}
 
 abbrev pub arrivedAt : Judged → Cell → Cell
 arrivedAt (refusal n) x = x

@@ -11,11 +11,11 @@ use lib.ListN.{length, getD, set}
 use lib.Seq.{set-getD}
 use Rattle.tables.specs.Trace.{Outcome}
 use Rattle.tables.specs.Lists.{any, count, lowest, grant, atSlot}
 use Rattle.subscription.specs.Record.{unsound}
-use Rattle.subscription.specs.Slot.{Judged, refusal, passed, judged, Cell, freeCell, grantedCell, wants, takes, taken}
-use Rattle.subscription.specs.Table.{Call, subscribe, unsubscribe, telegram, timeCheck, read, Answer, granted, freed, delivered, marked, shows, refused, early, deliveredTo, unsubscribed, arriving, holds, slots, Table, parts, lentAfter, fits, step}
-use Rattle.subscription.proofs.Lent.{fits-means}
-use Rattle.subscription.proofs.Flat.{records-parts, store-parts}
+use Rattle.subscription_table.specs.Slot.{Judged, refusal, passed, judged, Cell, freeCell, grantedCell, wants, takes, taken}
+use Rattle.subscription_table.specs.Table.{Call, subscribe, unsubscribe, telegram, timeCheck, read, Answer, granted, freed, delivered, marked, shows, refused, early, deliveredTo, unsubscribed, arriving, holds, slots, Table, parts, lentAfter, fits, step}
+use Rattle.subscription_table.proofs.Lent.{fits-means}
+use Rattle.subscription_table.proofs.Flat.{records-parts, store-parts}
 
 never : {A : Type 0} (a : Answer) (n : ℕ) (refuses : Answer → ℕ) → refuses a ≡ 0 → refuses (refused n) ≡ 1 → a ≡ refused n → A
 never a n refuses p q e = absurd (omega (arith, sym p ∙ ap refuses e ∙ q))

@@ -12,8 +12,8 @@ use Rattle.telegram.specs.declared.Family.the-variants as family
 use Rattle.telegram.proofs.Reading.{sound, whole}
 use Rattle.arrival.specs.declared.Arrival.{Arrival}
 use Rattle.arrival.specs.Arrival.{topographyCheck, arrivalChecks}
 use Rattle.subscription.specs.declared.Heard.{Heard}
-use Rattle.subscription.specs.Slot.{refusal, passed, judgedBy, judged, heardOf, slotOctets}
+use Rattle.subscription_table.specs.Slot.{refusal, passed, judgedBy, judged, heardOf, slotOctets}
 
 apart : (r : ℕ) (h : Heard) (dataset : List ℕ) → refusal r ≡ passed h dataset → ⊥
 apart r h dataset e = let z : _≡_ {A = ℕ} 0 1 = cc in omega arith

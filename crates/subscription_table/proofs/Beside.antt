@@ -8,20 +8,20 @@ use mathlib.Core.Option.{Option, none, some}
 use Prim.Native.Nat.{ℕ, zero, suc, _*_, _≤_}
 use native.Mathlib.Nat.{zero-mul, suc-mul, add-comm}
 use lib.ListN.{length, set, replicate, length-set, length-map, length-replicate, replicate-append-replicate}
 use Rattle.subscription.specs.Record.{unsound}
 use Rattle.arrival.specs.declared.Arrival.{Arrival}
 use Rattle.subscription.specs.declared.Heard.{Heard}
 use Rattle.tables.specs.Lists.{any, lowest, grant, atSlot}
 use Rattle.tables.specs.Trace.{Outcome, trace}
-use Rattle.subscription.specs.Slot.{Judged, refusal, passed, judged, Cell, slotOctets, freeCell, wants, takes, deliver, due, mark}
-use Rattle.subscription.specs.Table.{Call, subscribe, unsubscribe, telegram, timeCheck, read, Answer, granted, refused, early, deliveredTo, unsubscribed, reading, arriving, holds, slots, Table, lent, fits, step, emptyTable}
-use Rattle.subscription.specs.Table as Rules
-use Rattle.subscription.specs.Alone.{arrived, checked, asked, Slot, free, held, only, joined, isFree, grantedSame, reached, feed, changed, changes, arrivingBeside, beside, refusing, sideBySide}
-use Rattle.subscription.specs.Demand3.{SideBySide}
+use Rattle.subscription_table.specs.Slot.{Judged, refusal, passed, judged, Cell, slotOctets, freeCell, wants, takes, deliver, due, mark}
+use Rattle.subscription_table.specs.Table.{Call, subscribe, unsubscribe, telegram, timeCheck, read, Answer, granted, refused, early, deliveredTo, unsubscribed, reading, arriving, holds, slots, Table, lent, fits, step, emptyTable}
+use Rattle.subscription_table.specs.Table as Rules
+use Rattle.subscription_table.specs.Alone.{arrived, checked, asked, Slot, free, held, only, joined, isFree, grantedSame, reached, feed, changed, changes, arrivingBeside, beside, refusing, sideBySide}
+use Rattle.subscription_table.specs.Demand3.{SideBySide}
 use Rattle.tables.proofs.Trace.{same-trace}
 use Rattle.tables.proofs.Lists.{mapped, any-map, count-map, lowest-map, map-each, grant-map, atSlot-map}
-use Rattle.subscription.proofs.Lent.{step-lent, fits-means}
-use Rattle.subscription.proofs.One.{after, cellOf, kept, sized, free-is, same-is, wants-is, only-is, only-answer}
+use Rattle.subscription_table.proofs.Lent.{step-lent, fits-means}
+use Rattle.subscription_table.proofs.One.{after, cellOf, kept, sized, free-is, same-is, wants-is, only-is, only-answer}
 
 told : (met took : Bool) → changed (deliveredTo (met || false) (cond took 1 0)) ≡ took
 told true true = refl

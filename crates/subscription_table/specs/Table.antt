@@ -9,9 +9,9 @@ use lib.Dec.{leb, eqb}
 use lib.ListN.{length, take, drop, set, replicate}
 use Rattle.tables.specs.Trace.{Outcome}
 use Rattle.tables.specs.Lists.{count, any, lowest, grant, atSlot}
-use Rattle.subscription.specs.Slot.{Judged, refusal, passed, judged, Request, Cell, slotOctets, freeCell, grantedCell, wants, takes, deliver, due, mark, shown, overlong}
+use Rattle.subscription_table.specs.Slot.{Judged, refusal, passed, judged, Request, Cell, slotOctets, freeCell, grantedCell, wants, takes, deliver, due, mark, shown, overlong}
 use Rattle.subscription.specs.declared.State.{State}
 use Rattle.subscription.specs.declared.Subscription.{Subscription}
 
 pub data Call : Type 0 where
   subscribe : Request → ℕ → Call

@@ -4,10 +4,10 @@ use Prim.Native.Nat.{ℕ}
 use mathlib.Core.List.{List}
 use Rattle.tables.specs.Trace.{trace, run}
 use Rattle.tables.specs.Watch.{watched, told, watchedAlone}
-use Rattle.subscription.specs.Slot.{Request, slotOctets}
-use Rattle.subscription.specs.Table.{Call, subscribe, granted, step, emptyTable}
-use Rattle.subscription.specs.Alone.{sideBySide}
-use Rattle.subscription.specs.Watched.{slotAt, slotWatch}
+use Rattle.subscription_table.specs.Slot.{Request, slotOctets}
+use Rattle.subscription_table.specs.Table.{Call, subscribe, granted, step, emptyTable}
+use Rattle.subscription_table.specs.Alone.{sideBySide}
+use Rattle.subscription_table.specs.Watched.{slotAt, slotWatch}
 
 -- the answers, and the records and the store after each call, are those of slots alone, side by side
 abbrev pub SideBySide : Type 0

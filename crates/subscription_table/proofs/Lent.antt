@@ -8,9 +8,9 @@ use lib.Dec.{T, leb, eqb, le→leb, leb→le, eqb→eq, eqb-refl}
 use lib.ListN.{length, drop, getD, length-append}
 use lib.Seq.{take-at, drop-at, drop-append-add}
 use Rattle.tables.proofs.Lists.{is-true}
-use Rattle.subscription.specs.Slot.{Cell, slotOctets}
-use Rattle.subscription.specs.Watched.{slotAt}
-use Rattle.subscription.specs.Table.{Call, slots, parts, records, store, lent, lentAfter, fits, step}
+use Rattle.subscription_table.specs.Slot.{Cell, slotOctets}
+use Rattle.subscription_table.specs.Watched.{slotAt}
+use Rattle.subscription_table.specs.Table.{Call, slots, parts, records, store, lent, lentAfter, fits, step}
 
 pub fits-is : (n : ℕ) → n ≤ 32 → fits n (n * slotOctets) ≡ true
 unfolding fits

@@ -8,11 +8,11 @@ use native.Mathlib.Nat.{zero-mul, suc-mul, add-comm, not-suc-le-zero, le-of-suc-
 use native.Mathlib.Omega.{arith}
 use lib.ListN.{length, take, drop, getD, set, length-drop, take-append-drop}
 use lib.Seq.{take-at, drop-at, drop-drop, take-add, length-take-le}
-use Rattle.subscription.specs.Slot.{Cell, slotOctets, freeCell}
+use Rattle.subscription_table.specs.Slot.{Cell, slotOctets, freeCell}
 use Rattle.tables.specs.Trace.{Outcome}
 use Rattle.tables.specs.Lists.{count, atSlot}
-use Rattle.subscription.specs.Table.{Answer, parts, records, store, lentAfter}
+use Rattle.subscription_table.specs.Table.{Answer, parts, records, store, lentAfter}
 use Rattle.subscription.specs.declared.Subscription.{Subscription}
 
 pub records-parts : (rs : List Subscription) (st : List ℕ) → records (parts rs st) ≡ rs
 unfolding parts

@@ -1,15 +1,15 @@
 -- Demand 3: the slot alone, and the model made of slots alone.
 use Rattle.subscription.specs.Record.{matches, equal, unsound}
 use Rattle.arrival.specs.declared.Arrival.{Arrival}
 use Rattle.subscription.specs.declared.Heard.{Heard}
 use Prim.Native.Nat.{ℕ, zero, suc}
 use mathlib.Core.Bool.{Bool, true, false, cond}
 use mathlib.Core.List.{List, [], _∷_, _++_, map}
 use lib.ListN.{replicate}
 use Rattle.tables.specs.Lists.{count, any, lowest, grant, atSlot}
 use Rattle.tables.specs.Trace.{Outcome, trace}
-use Rattle.subscription.specs.Slot.{Judged, refusal, passed, judged, Request, slotOctets, grantedCell}
-use Rattle.subscription.specs.Table.{Call, subscribe, unsubscribe, telegram, timeCheck, read, Answer, granted, freed, delivered, marked, shows, refused, early, deliveredTo, Table, lent, fits, step, emptyTable}
+use Rattle.subscription_table.specs.Slot.{Judged, refusal, passed, judged, Request, slotOctets, grantedCell}
+use Rattle.subscription_table.specs.Table.{Call, subscribe, unsubscribe, telegram, timeCheck, read, Answer, granted, freed, delivered, marked, shows, refused, early, deliveredTo, Table, lent, fits, step, emptyTable}
 
 -- what a slot alone is fed after its grant: a call, but for the slot's number
 pub data Fed : Type 0 where

@@ -9,22 +9,22 @@ use native.Mathlib.Omega.{arith}
 use lib.Dec.{eqb}
 use lib.ListN.{length, getD, set, replicate, length-replicate, List·getD-map}
 use lib.Seq.{getD-set-same, getD-set-other}
 use Rattle.subscription.specs.Record.{matches, unsound}
 use Rattle.subscription.specs.declared.Heard.{Heard}
 use Rattle.tables.specs.Lists.{any, count, lowest, grant, atSlot}
 use Rattle.tables.specs.Trace.{run}
 use Rattle.tables.specs.Watch.{watched, told, stepIf, answerIf, watchedAlone}
-use Rattle.subscription.specs.Slot.{Judged, refusal, passed, judged, Request, slotOctets}
-use Rattle.subscription.specs.Table.{Call, subscribe, unsubscribe, telegram, timeCheck, read, Answer, granted, freed, refused, early, deliveredTo, slots, Table, fits, step, emptyTable}
-use Rattle.subscription.specs.Alone.{Fed, arrived, checked, asked, Slot, free, held, alone, only, joined, isFree, grantedSame, reached, feed, changes, beside, refusing}
-use Rattle.subscription.specs.Demand3.{OneSlot}
-use Rattle.subscription.specs.Watched.{slotAt, unused, gave1, names, fed, heard, slotWatch}
+use Rattle.subscription_table.specs.Slot.{Judged, refusal, passed, judged, Request, slotOctets}
+use Rattle.subscription_table.specs.Table.{Call, subscribe, unsubscribe, telegram, timeCheck, read, Answer, granted, freed, refused, early, deliveredTo, slots, Table, fits, step, emptyTable}
+use Rattle.subscription_table.specs.Alone.{Fed, arrived, checked, asked, Slot, free, held, alone, only, joined, isFree, grantedSame, reached, feed, changes, beside, refusing}
+use Rattle.subscription_table.specs.Demand3.{OneSlot}
+use Rattle.subscription_table.specs.Watched.{slotAt, unused, gave1, names, fed, heard, slotWatch}
 use Rattle.tables.proofs.Trace.{same-run, run-keeps}
 use Rattle.tables.proofs.Lists.{eqb-same, eqb-other, lowest-is, grant-leaves}
 use Rattle.tables.proofs.Watch.{Follows, same-watch}
-use Rattle.subscription.proofs.Lent.{slot-lent, fits-means}
-use Rattle.subscription.proofs.One.{cellOf, kept, sized, step-one, only-is}
-use Rattle.subscription.proofs.Beside.{joined-is, joined-empty, agrees, keeps, length-beside, Refused, refuses}
+use Rattle.subscription_table.proofs.Lent.{slot-lent, fits-means}
+use Rattle.subscription_table.proofs.One.{cellOf, kept, sized, step-one, only-is}
+use Rattle.subscription_table.proofs.Beside.{joined-is, joined-empty, agrees, keeps, length-beside, Refused, refuses}
 
 unless-none : (b : Bool) → _≡_ {A = Option Call} (cond b none none) none
 unless-none true = refl

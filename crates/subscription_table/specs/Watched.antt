@@ -8,9 +8,9 @@ use mathlib.Core.Option.{Option, none, some}
 use lib.Dec.{eqb}
 use lib.ListN.{take, drop, getD}
 use Rattle.tables.specs.Watch.{Watch}
-use Rattle.subscription.specs.Slot.{Judged, refusal, passed, judged, slotOctets, freeCell}
-use Rattle.subscription.specs.Table.{Call, subscribe, unsubscribe, telegram, timeCheck, read, Answer, granted, freed, delivered, marked, shows, refused, Table, step}
+use Rattle.subscription_table.specs.Slot.{Judged, refusal, passed, judged, slotOctets, freeCell}
+use Rattle.subscription_table.specs.Table.{Call, subscribe, unsubscribe, telegram, timeCheck, read, Answer, granted, freed, delivered, marked, shows, refused, Table, step}
 use Rattle.subscription.specs.declared.Filter.{Filter}
 
 -- slot k of a table: its record, and store octets 1432k to 1432k+1431
 abbrev pub slotAt : ℕ → Table → Table
