@@ -26,7 +26,7 @@ use Rattle.walks.proofs.ByValue.{unsignedInt}
 use Rattle.lent.proofs.Own.{Terms, both-terms, slice-terms, Obeys}
 use Rattle.subscription.specs.declared.Subscription.{Subscription}
 use Rattle.subscription.specs.declared.Filter.{Filter}
-use Rattle.subscription.specs.Table.{subscribe}
+use Rattle.subscription_table.specs.Table.{subscribe}
 use Rattle.subscription_decisions.specs.declared.Answer.{Answer}
 use Rattle.subscriptions.specs.Calls.{Follows}
 use Rattle.subscription_decisions.specs.Calls.{meaning}

@@ -25,7 +25,7 @@ use denote.Triple.Clauses.{ensured, lasts}
 use Rattle.walks.proofs.ByValue.{unsignedInt}
 use Rattle.lent.proofs.Own.{Terms, both-terms, slice-terms, Obeys}
 use Rattle.subscription.specs.declared.Subscription.{Subscription}
-use Rattle.subscription.specs.Table.{timeCheck}
+use Rattle.subscription_table.specs.Table.{timeCheck}
 use Rattle.subscription_decisions.specs.declared.Answer.{Answer}
 use Rattle.subscriptions.specs.Calls.{Follows}
 use Rattle.subscription_decisions.specs.Calls.{meaning}

@@ -10,7 +10,7 @@ use lib.ListN.{length, length-map, getD, take, drop, drop-of-length-le}
 use lib.Seq.{take-all, length-take-le}
 use borrow.Author.Tests.{ltb-true, ltb-false}
 use Rattle.subscription.specs.declared.Subscription.{Subscription}
-use Rattle.subscription.specs.Table.{Call, Answer, telegram, step}
+use Rattle.subscription_table.specs.Table.{Call, Answer, telegram, step}
 use Rattle.subscriptions.specs.Calls.{Follows}
 use Rattle.subscription_decisions.specs.Calls.{meaning}
 use Rattle.subscriptions.specs.Read.{Reads}

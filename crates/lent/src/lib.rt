@@ -10,7 +10,7 @@ use subscription_decisions::Reading;
 ghost use mathlib.Core.Path.{_≡_};
 ghost use mathlib.Core.List.{[], _∷_};
 ghost use lib.ListN.{take};
-ghost use Rattle.subscription.specs.Table as table;
+ghost use Rattle.subscription_table.specs.Table as table;
 ghost use Rattle.subscription_decisions.specs.Calls.{meaning};
 ghost use Rattle.subscriptions.specs.Read.{Reads};
 ghost use Rattle.subscriptions.specs.Receive as arriving;

@@ -13,7 +13,7 @@ use Rattle.line.specs.Answer.{octets, refused as refusedWords}
 use Rattle.subscription.specs.declared.Subscription.{Subscription}
 use Rattle.subscription.specs.Record.{freeRecord}
 use Rattle.subscription.specs.Step.{shownAt}
-use Rattle.subscription.specs.Table.{Answer, granted, freed, delivered, marked, shows, refused, read, fits, step}
+use Rattle.subscription_table.specs.Table.{Answer, granted, freed, delivered, marked, shows, refused, read, fits, step}
 use Rattle.subscription_decisions.specs.declared.View.{View}
 use Rattle.subscription_decisions.specs.declared.Reading.{Reading}
 use Rattle.subscription_decisions.specs.declared.Reading.the-variants.{Shows, Refused}

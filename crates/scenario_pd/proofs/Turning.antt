@@ -18,7 +18,7 @@ use Rattle.line.specs.Answer.{room, Puts, Answers}
 use Rattle.line.proofs.Rooms.{pieces, answered, unanswered}
 use Rattle.subscription.specs.declared.Subscription.{Subscription}
 use Rattle.subscription.specs.declared.Filter.{Filter}
-use Rattle.subscription.specs.Table.{Call, subscribe, telegram, read, Answer, step}
+use Rattle.subscription_table.specs.Table.{Call, subscribe, telegram, read, Answer, step}
 use Rattle.subscriptions.specs.Receive.{recorded}
 use Rattle.lent.specs.Lent.{lentTable, Serves, Receives}
 use Rattle.scenario_pd_words.specs.Words.{answerWords}

@@ -8,7 +8,7 @@ use Rattle.line.specs.declared.Field.{Field}
 use Rattle.line.specs.Line.{numberField}
 use Rattle.line.specs.Answer.{Answers}
 use Rattle.subscription.specs.declared.Subscription.{Subscription}
-use Rattle.subscription.specs.Table.{Call, Table, step}
+use Rattle.subscription_table.specs.Table.{Call, Table, step}
 use Rattle.statistics.specs.declared.Statistics.{Statistics}
 use Rattle.subscriptions.specs.Receive.{statisticsAfter}
 use Rattle.lent.specs.Lent.{lentTable}

@@ -10,7 +10,7 @@ use Rattle.fcs.specs.Fcs.{crc32}
 use Rattle.line.specs.Line.{readTo, verbIs, withEnd, withOctets}
 use Rattle.line.specs.Answer.{ascii, word, number, refused}
 use Rattle.subscription.specs.Record.{freeRecord}
-use Rattle.subscription.specs.Table.{read, step}
+use Rattle.subscription_table.specs.Table.{read, step}
 use Rattle.scenario_pd_words.specs.Words.{answerWords, recordWords}
 use Rattle.scenario_pd.specs.declared.Slots.{Slots}
 use Rattle.scenario_pd.specs.Effect.{withNumber, wordIn, lentOf}

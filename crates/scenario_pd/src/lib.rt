@@ -16,7 +16,7 @@ ghost use Prim.Native.Nat.{ℕ};
 ghost use lib.ListN.{replicate};
 ghost use Rattle.line.specs.Answer.{Puts, refused};
 ghost use Rattle.subscription.specs.Record.{freeRecord};
-ghost use Rattle.subscription.specs.Table as table;
+ghost use Rattle.subscription_table.specs.Table as table;
 ghost use Rattle.subscription_decisions.specs.Calls.{meaning};
 ghost use Rattle.scenario_pd_words.specs.Words.{answerWords};
 ghost use Rattle.scenario_pd.specs.Effect.{withRecords, calling, counting, Turns};

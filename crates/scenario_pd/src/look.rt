@@ -7,7 +7,7 @@ ghost use mathlib.Core.Path.{_≡_};
 ghost use lib.ListN.{getD};
 ghost use Rattle.line.specs.Answer.{Puts, Answers};
 ghost use Rattle.subscription.specs.Record.{freeRecord};
-ghost use Rattle.subscription.specs.Table as table;
+ghost use Rattle.subscription_table.specs.Table as table;
 ghost use Rattle.lent.specs.Lent.{lentTable};
 ghost use Rattle.scenario_pd_words.specs.Words.{answerWords};
 ghost use Rattle.scenario_pd.specs.Look.{readAnswer, slotAnswer, slotWords, partWords, partAnswer, lookAnswer};

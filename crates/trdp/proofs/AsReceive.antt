@@ -29,7 +29,7 @@ use Rattle.subscriptions.proofs.Values.{subscriptionBy, answerBy, arrivalBy}
 use Rattle.statistics.proofs.Values.{statisticsBy}
 use Rattle.statistics.specs.declared.Statistics.{Statistics}
 use Rattle.arrival.specs.declared.Arrival.{Arrival}
-use Rattle.subscription.specs.Table.{telegram}
+use Rattle.subscription_table.specs.Table.{telegram}
 use Rattle.subscription.specs.declared.Subscription.{Subscription}
 use Rattle.subscription_decisions.specs.declared.Answer.{Answer}
 use Rattle.subscription_decisions.specs.Calls.{meaning}

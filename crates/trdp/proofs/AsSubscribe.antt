@@ -27,7 +27,7 @@ use Rattle.walks.proofs.ByValue.{unsignedInt}
 use Rattle.walks.proofs.Steps.{Call, both-lent, slice-lent, pair-is}
 use Rattle.subscriptions.proofs.Values.{subscriptionBy, filterBy, answerBy}
 use Rattle.subscriptions.proofs.Granting.{request}
-use Rattle.subscription.specs.Table.{subscribe}
+use Rattle.subscription_table.specs.Table.{subscribe}
 use Rattle.subscription.specs.declared.Subscription.{Subscription}
 use Rattle.subscription.specs.declared.Filter.{Filter}
 use Rattle.subscription_decisions.specs.declared.Answer.{Answer}

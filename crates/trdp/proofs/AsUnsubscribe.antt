@@ -26,7 +26,7 @@ use denote.Triple.Clauses.{ensured, lasts}
 use Rattle.walks.proofs.ByValue.{unsignedInt}
 use Rattle.walks.proofs.Steps.{Call, both-lent, slice-lent, pair-is}
 use Rattle.subscriptions.proofs.Values.{subscriptionBy, answerBy}
-use Rattle.subscription.specs.Table.{unsubscribe}
+use Rattle.subscription_table.specs.Table.{unsubscribe}
 use Rattle.subscription.specs.declared.Subscription.{Subscription}
 use Rattle.subscription_decisions.specs.declared.Answer.{Answer}
 use Rattle.subscriptions.specs.Calls.{Follows as TableFollows}

@@ -9,9 +9,9 @@ use Rattle.octets.specs.Octets.{part}
 use Rattle.arrival.specs.declared.Arrival.{Arrival}
 use Rattle.statistics.specs.declared.Statistics.{Statistics}
 use Rattle.subscription.specs.Record.{freeRecord, stateOf}
-use Rattle.subscription.specs.Slot.{slotOctets}
-use Rattle.subscription.specs.Table as table
-use Rattle.subscription.specs.Table.{Call, fits, step, telegram, read}
+use Rattle.subscription_table.specs.Slot.{slotOctets}
+use Rattle.subscription_table.specs.Table as table
+use Rattle.subscription_table.specs.Table.{Call, fits, step, telegram, read}
 use Rattle.subscription.specs.declared.State.{State}
 use Rattle.subscription.specs.declared.State.the-variants.{NeverReceived, Valid, TimedOut}
 use Rattle.subscription.specs.declared.Subscription.{Subscription}

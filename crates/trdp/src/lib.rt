@@ -33,7 +33,7 @@ ghost use Rattle.statistics.specs.Statistics.{noStatistics};
 ghost use Rattle.subscription.specs.Record.{freeRecord};
 ghost use Rattle.dataset.specs.Walk.{wholeOf};
 ghost use Rattle.dataset.specs.declared.Form.the-variants as form;
-ghost use Rattle.subscription.specs.Table as table;
+ghost use Rattle.subscription_table.specs.Table as table;
 ghost use Rattle.subscription_decisions.specs.Calls.{meaning};
 ghost use Rattle.subscription_decisions.specs.declared.Reading.the-variants as reading;
 ghost use Rattle.trdp.specs.Subscriptions.{outcomeOf, Follows, Receives, stateNumber, ofReading, isShown, Reads};

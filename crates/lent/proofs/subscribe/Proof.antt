@@ -51,7 +51,7 @@ use Rattle.subscriptions.proofs.subscribe.Symbol.{name as #subscribe}
 use Rattle.subscriptions.proofs.subscribe.Met as subscribe-thm
 use Rattle.subscription.specs.declared.Subscription.{Subscription}
 use Rattle.subscription.specs.declared.Filter.{Filter}
-use Rattle.subscription.specs.Table.{subscribe}
+use Rattle.subscription_table.specs.Table.{subscribe}
 use Rattle.subscription_decisions.specs.Calls.{meaning}
 use Rattle.subscriptions.proofs.Values.{subscriptionBy, filterBy, answerBy}
 use Rattle.subscriptions.proofs.Granting.{request}

@@ -50,7 +50,7 @@ use Rattle.subscriptions.proofs.time_check.Symbol as time-check-def
 use Rattle.subscriptions.proofs.time_check.Symbol.{name as #time-check}
 use Rattle.subscriptions.proofs.time_check.Met as time-check-thm
 use Rattle.subscription.specs.declared.Subscription.{Subscription}
-use Rattle.subscription.specs.Table.{timeCheck}
+use Rattle.subscription_table.specs.Table.{timeCheck}
 use Rattle.subscription_decisions.specs.Calls.{meaning}
 use Rattle.subscriptions.proofs.Values.{subscriptionBy, answerBy}
 use Rattle.lent.specs.Lent.{lentSlots, Serves}

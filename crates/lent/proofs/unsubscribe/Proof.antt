@@ -50,7 +50,7 @@ use Rattle.subscriptions.proofs.unsubscribe.Symbol as unsubscribe-def
 use Rattle.subscriptions.proofs.unsubscribe.Symbol.{name as #unsubscribe}
 use Rattle.subscriptions.proofs.unsubscribe.Met as unsubscribe-thm
 use Rattle.subscription.specs.declared.Subscription.{Subscription}
-use Rattle.subscription.specs.Table.{unsubscribe}
+use Rattle.subscription_table.specs.Table.{unsubscribe}
 use Rattle.subscription_decisions.specs.Calls.{meaning}
 use Rattle.subscriptions.proofs.Values.{subscriptionBy, answerBy}
 use Rattle.lent.specs.Lent.{lentSlots, Serves}

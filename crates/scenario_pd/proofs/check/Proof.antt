@@ -5,7 +5,7 @@ use mathlib.Core.Option.{Option}
 use Rattle.line.specs.Line.{readTo}
 use Rattle.scenario_pd.proofs.Said.{one-said, one-bad}
 use Rattle.scenario_pd.proofs.Turning.{by-effect, turned, unturned, not-calling}
-use Rattle.subscription.specs.Table.{Call, timeCheck}
+use Rattle.subscription_table.specs.Table.{Call, timeCheck}
 use Rattle.scenario_pd.specs.Effect.{calling}
 use Rattle.scenario_pd.specs.Lines.{checkCall}
 use borrow.Author.Needs.{needs}

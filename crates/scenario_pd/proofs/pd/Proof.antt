@@ -3,7 +3,7 @@ use mathlib.Core.Path.{refl, sym, ap, _∙_}
 use mathlib.Core.Option.{Option}
 use Rattle.line.specs.Line.{lastField}
 use Rattle.scenario_pd.proofs.Turning.{by-effect, not-calling, not-counting, pd-said, pd-bad}
-use Rattle.subscription.specs.Table.{Call}
+use Rattle.subscription_table.specs.Table.{Call}
 use Rattle.line.proofs.Rooms.{unanswered}
 use Rattle.scenario_pd.specs.Effect.{calling, counting}
 use borrow.Author.Needs.{needs}

@@ -2,7 +2,7 @@
 use mathlib.Core.Path.{sym, ap, _∙_}
 use mathlib.Core.Option.{Option}
 use Rattle.scenario_pd.proofs.Turning.{by-effect, unturned, not-calling, sub-said, sub-other, sub-bad}
-use Rattle.subscription.specs.Table.{Call}
+use Rattle.subscription_table.specs.Table.{Call}
 use Rattle.scenario_pd.specs.Effect.{calling}
 use borrow.Author.Needs.{needs}
 use Rattle.scenario_pd.proofs.sub.Statement.{statement}

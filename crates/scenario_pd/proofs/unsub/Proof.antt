@@ -6,7 +6,7 @@ use mathlib.Core.Option.{Option, some}
 use Rattle.line.specs.Line.{readTo}
 use Rattle.scenario_pd.proofs.Said.{one-said, one-bad}
 use Rattle.scenario_pd.proofs.Turning.{by-effect, turned, unturned, not-calling}
-use Rattle.subscription.specs.Table.{Call, unsubscribe}
+use Rattle.subscription_table.specs.Table.{Call, unsubscribe}
 use Rattle.scenario_pd.specs.Effect.{wordIn, calling}
 use Rattle.scenario_pd.specs.Lines.{unsubCall}
 use borrow.Author.Needs.{needs}

@@ -46,7 +46,7 @@ use Rattle.trdp.proofs.of_answer.Symbol as of-answer-def
 use Rattle.trdp.proofs.of_answer.Symbol.{name as #of-answer}
 use Rattle.trdp.proofs.of_answer.Met as of-answer-thm
 use Rattle.subscriptions.proofs.Values.{subscriptionBy, answerBy}
-use Rattle.subscription.specs.Table.{fits, timeCheck}
+use Rattle.subscription_table.specs.Table.{fits, timeCheck}
 use Rattle.subscription.specs.declared.Subscription.{Subscription}
 use Rattle.subscription_decisions.specs.Calls.{meaning}
 use Rattle.trdp.specs.declared.Outcome.{Outcome}

@@ -51,7 +51,7 @@ use Rattle.trdp.proofs.of_reading.Symbol.{name as #of-reading}
 use Rattle.trdp.proofs.of_reading.Met as of-reading-thm
 use Rattle.subscriptions.proofs.Values.{subscriptionBy, readingBy}
 use Rattle.subscription.specs.Record.{freeRecord}
-use Rattle.subscription.specs.Table.{fits}
+use Rattle.subscription_table.specs.Table.{fits}
 use Rattle.subscription.specs.declared.Subscription.{Subscription}
 use Rattle.subscription_decisions.specs.Read.{readBy}
 use Rattle.trdp.specs.declared.Shown.{Shown}

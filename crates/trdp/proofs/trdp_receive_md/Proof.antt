@@ -60,7 +60,7 @@ use Rattle.trdp.specs.Sessions.{mdOutcomeOf, Receives as MdReceives}
 use Rattle.trdp.proofs.Messages.{received}
 use Rattle.statistics.specs.declared.Statistics.{Statistics}
 use Rattle.arrival.specs.declared.Arrival.{Arrival}
-use Rattle.subscription.specs.Table.{fits}
+use Rattle.subscription_table.specs.Table.{fits}
 use Rattle.trdp.proofs.Values.{mdOutcomeBy, octetsLent, telling}
 use Rattle.arrival.proofs.Arrival as P
 use Rattle.arrival.proofs.Arrival.Laws as P′

@@ -49,7 +49,7 @@ use Rattle.subscriptions.proofs.Values.{subscriptionBy, answerBy, arrivalBy}
 use Rattle.statistics.proofs.Values.{statisticsBy}
 use Rattle.statistics.specs.declared.Statistics.{Statistics}
 use Rattle.arrival.specs.declared.Arrival.{Arrival}
-use Rattle.subscription.specs.Table.{fits, telegram}
+use Rattle.subscription_table.specs.Table.{fits, telegram}
 use Rattle.subscription.specs.declared.Subscription.{Subscription}
 use Rattle.subscription_decisions.specs.Calls.{meaning}
 use Rattle.trdp.specs.declared.Outcome.{Outcome}

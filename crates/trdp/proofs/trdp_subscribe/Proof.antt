@@ -47,7 +47,7 @@ use Rattle.trdp.proofs.of_answer.Symbol.{name as #of-answer}
 use Rattle.trdp.proofs.of_answer.Met as of-answer-thm
 use Rattle.subscriptions.proofs.Values.{subscriptionBy, filterBy, answerBy}
 use Rattle.subscriptions.proofs.Granting.{request}
-use Rattle.subscription.specs.Table.{fits, subscribe}
+use Rattle.subscription_table.specs.Table.{fits, subscribe}
 use Rattle.subscription.specs.declared.Subscription.{Subscription}
 use Rattle.subscription.specs.declared.Filter.{Filter}
 use Rattle.subscription_decisions.specs.Calls.{meaning}

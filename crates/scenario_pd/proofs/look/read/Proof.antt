@@ -6,7 +6,7 @@ use Rattle.line.specs.declared.Field.{Field}
 use Rattle.line.specs.Line.{readTo, lastField, withOctets}
 use Rattle.line.proofs.Rooms.{pieces, answered, unanswered}
 use Rattle.scenario_pd.proofs.Said.{first, octets-said, octets-bad, by-said}
-use Rattle.subscription.specs.Table.{read, step}
+use Rattle.subscription_table.specs.Table.{read, step}
 use Rattle.scenario_pd_words.specs.Words.{answerWords}
 use Rattle.scenario_pd.specs.Effect.{wordIn, lentOf}
 use Rattle.scenario_pd.proofs.Turning.{reads-lent}
