@@ -10,10 +10,11 @@ use Rattle.subscription.specs.declared.Filter.{Filter}
 use Rattle.arrival.specs.declared.Arrival.{Arrival}
 use Rattle.statistics.specs.declared.Statistics.{Statistics}
 use Rattle.statistics.proofs.Values.{statisticsBy}
-use Rattle.subscription.specs.Table.{timeCheck, subscribe, unsubscribe}
-use Rattle.subscriptions.specs.declared.Answer.{Answer}
-use Rattle.subscriptions.specs.declared.Reading.{Reading}
-use Rattle.subscriptions.specs.Calls.{Follows, meaning}
+use Rattle.subscription_table.specs.Table.{timeCheck, subscribe, unsubscribe}
+use Rattle.subscription_decisions.specs.declared.Answer.{Answer}
+use Rattle.subscription_decisions.specs.declared.Reading.{Reading}
+use Rattle.subscriptions.specs.Calls.{Follows}
+use Rattle.subscription_decisions.specs.Calls.{meaning}
 use Rattle.subscriptions.specs.Read.{Reads}
 use Rattle.subscriptions.specs.Receive as arriving
 use Rattle.sessions.specs.Arriving as message
@@ -36,10 +37,10 @@ use Rattle.subscription.proofs.Subscription as X
 use Rattle.subscription.proofs.Subscription.Laws as X′
 use Rattle.subscription.proofs.Filter as F
 use Rattle.subscription.proofs.Filter.Laws as F′
-use Rattle.subscriptions.proofs.Answer as N
-use Rattle.subscriptions.proofs.Answer.Laws as N′
-use Rattle.subscriptions.proofs.Reading as Q
-use Rattle.subscriptions.proofs.Reading.Laws as Q′
+use Rattle.subscription_decisions.proofs.Answer as N
+use Rattle.subscription_decisions.proofs.Answer.Laws as N′
+use Rattle.subscription_decisions.proofs.Reading as Q
+use Rattle.subscription_decisions.proofs.Reading.Laws as Q′
 use Rattle.arrival.proofs.Arrival as P
 use Rattle.arrival.proofs.Arrival.Laws as P′
 use Rattle.statistics.proofs.Statistics as S

@@ -3,7 +3,7 @@ import sys, os, re, subprocess
 sys.dont_write_bytecode=True
 here=os.path.dirname(os.path.abspath(__file__)); sys.path[:0]=[here,os.path.join(here,'..','walk')]
 import gen_callee, gen_walk, auto_walk, calls
-from walkgen import W
+from walkgen import W, used
 from gen_walk import l, tup, tupT
 def named(path):       # the table's name of `crate::function`
     c,f=path.split('::'); return next((k for k,d in calls.callees.items() if d['of']==c and d.get('name',k)==f),f)
@@ -144,7 +144,7 @@ module _ {M : Type 1} (𝓤 : URA M) (H : Heap 𝓤) (A : Atoms 𝓤) (W : Given
     pub obeyed : Obeys 𝓤 H A C #g (%(flat)s) T₀ (%(Br)s) (%(v)s) Said
     obeyed = record { Q = λ n. G .post (to n); goes = λ n. via 𝓤 (G .pre (to n)) (goes n) (known (to n)); gives = gives }
 '''%dict(locals(),of=d['of'],name=d.get('name',f),uses=calls.uses,items=grp(items),gtext=' '.join(g.out),flat=' ∷ '.join(mach(p) for p in ps)+' ∷ []')
-    open('crates/%s/proofs/As%s.antt'%(crate,cap(f)),'w').write(text); listed(crate,'As'+cap(f)); print('As'+cap(f),text.count('\n'),'lines')
+    text=used(text); open('crates/%s/proofs/As%s.antt'%(crate,cap(f)),'w').write(text); listed(crate,'As'+cap(f)); print('As'+cap(f),text.count('\n'),'lines')
 def listed(crate,m):
     lib='crates/%s/proofs/Lib.antt'%crate; t=open(lib).read()
     if 'pub mod %s\n'%m not in t: open(lib,'a').write('pub mod %s\n'%m)

@@ -140,8 +140,7 @@ use denote.Triple.Clauses.{ensured, lasts}
 use denote.Triple.Walked.{says}
 use Rattle.walks.proofs.ByValue.{unsignedInt, boolean, unitBy}
 use Rattle.walks.proofs.Steps.{Call, none-lent, both-lent, slice-lent, ref-lent, shr-lent, pair-is}
-%(uses)s
-use %(at)s.%(fn)s as callee
+%(uses)suse %(at)s.%(fn)s as callee
 use %(at)s.%(fn)s.Symbol.{name as #g}
 
 module _ {M : Type 1} (𝓤 : URA M) (H : Heap 𝓤) (A : Atoms 𝓤) (W : Given 𝓤 H A) (mem : Memory → SProp 𝓤) (run : Routine → Fun 𝓤) where
@@ -177,4 +176,4 @@ module _ {M : Type 1} (𝓤 : URA M) (H : Heap 𝓤) (A : Atoms 𝓤) (W : Given
     called = record { Q = λ n. G .post (to n); goes = λ n. via 𝓤 (G .pre (to n)) (goes n) (known (to n)); gives = gives }
 '''%dict(locals(),at=at or 'Rattle.%s.proofs'%crate,items=grp(items)+' ∷ []' if nl else '[]',
         Y='Unit {0}' if nl==0 else nestT([den(p) for p in refs]))
-    return X,out
+    return X,used(out)

@@ -96,7 +96,7 @@ class Fn(W):
         return ' '.join(g.out)
     requires=None
     of={}          # the crate of a callee that stands in another one
-    here=[]        # those of them whose AsX stands in this one
+    here={}        # where its AsX stands, if not there
     def file(s,pre='',helpers=''):
         c=s.crate; nl=len(s.refs)
         muts=[p for p in s.refs if p[1]!='shr']
@@ -141,7 +141,7 @@ class Fn(W):
         bare="\n".join(x for x in body.split("\n") if not x.strip().startswith("--"))
         body+=')'*(bare.count('(')-bare.count(')'))
         mod=lambda f:'Rattle.%s.proofs'%s.of[f] if f in s.of else 'Rattle.%s.proofs'%c
-        uses=''.join('use {4}.As{1} as As{1}\nuse {0}.{2}.Symbol as {3}-def\nuse {0}.{2}.Symbol.{{name as #{3}}}\nuse {0}.{2}.Met as {3}-thm\n'.format(mod(f),X(f),f,dn(f),'Rattle.%s.proofs'%c if f in s.here else mod(f)) for f in s.callees)
+        uses=''.join('use {4}.As{1} as As{1}\nuse {0}.{2}.Symbol as {3}-def\nuse {0}.{2}.Symbol.{{name as #{3}}}\nuse {0}.{2}.Met as {3}-thm\n'.format(mod(f),X(f),f,dn(f),s.here.get(f) or mod(f)) for f in s.callees)
         dash=s.fn.replace('_','-')
         return '''-- `%s::%s` meets its contract: a walk of its MIR, by the laws of `Steps.antt`. Written by tools/walk.
 -- Assumes nothing.
@@ -264,7 +264,7 @@ unfolding code.routine tablesOf
      ' '.join('alloc1 ! (λ %s.'%l(i) for i in range(s.N)),
      kn,tup([vals[p[1]](p) for p in s.params]),tup([tells[p[1]](p) for p in s.params]),('needs 𝓤 (%s) _ (λ ok. walk%s ok 𝓣%s)'%(atarg(s.requires),inst,kns) if s.requires else 'via 𝓤 _ (fst∗ 𝓤 _ (emp 𝓤)) (walk%s 𝓣%s)'%(inst,kns)),
      tup([goes[p[1]](p) for p in s.params]),dash,dash,
-     ''.join('\n    (cited 𝓤 H (As%s.G 𝓤 H (𝓖 .A) (givenOf 𝓤 H 𝓜 𝓖) (𝓜 .mem) (𝓡 .run)) 𝓜 𝓡 code.env #%s %s-def.routine code.calls-%s·%s (%s-thm.met 𝓤 H 𝓜 𝓖 𝓡))'%(X(f),dn(f),dn(f),s.of.get(f,c),dn(f),dn(f)) for f in s.callees))
+     ''.join('\n    (cited 𝓤 H (As%s.G 𝓤 H (𝓖 .A) (givenOf 𝓤 H 𝓜 𝓖) (𝓜 .mem) (𝓡 .run)) 𝓜 𝓡 code.env #%s %s-def.routine code.calls-%s·%s (%s-thm.met 𝓤 H 𝓜 𝓖 𝓡))'%(X(f),dn(f),dn(f),dn(s.of.get(f,c)),dn(f),dn(f)) for f in s.callees))
     def begins(s):
         # the context once the parameters are stored and the references taken out
         out=['(%s)'%s.holds(p) for p in s.refs]
@@ -279,7 +279,7 @@ unfolding code.routine tablesOf
         toks=''.join('(‵ (flft %s-κ %s-q) ⊛ '%(p[0],p[0]) for p in s.refs)+'‵ ftrue'+')'*len(s.refs)
         entry='%s ∷ ‵ (owns (%s) args (%s)) ∷ []'%(toks,''.join(s.rty(p)+' ∷ ' for p in s.params)+'[]',tup([s.mach(p)+' ∷ []' for p in s.params]))
         t=t.replace('@BEGINS@',s.begins()).replace('@ENTRY@',entry).replace('@ENTER@',' '.join(s.entered)+' begun '+' '.join(l(i) for i in range(s.N))+')'*s.N)
-        open('crates/%s/proofs/%s/Proof.antt'%(s.crate,s.fn),'w').write(t)
+        t=used(t); open('crates/%s/proofs/%s/Proof.antt'%(s.crate,s.fn),'w').write(t)
         print(s.fn,t.count('\n'),'lines')
     def start(s):
         s.enter(); s.entered=s.out; s.out=[]

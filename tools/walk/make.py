@@ -1,5 +1,5 @@
 # make.py TABLE [NAME..]: from one table of a crate's functions writes, for each, proofs/AsX.antt (the function as a callee) and, where it has `hand`, proofs/X/Proof.antt: a walk of its MIR. Run in the repository's root.
-# The contract of each is `(r ≡ w) × ((first reference's last value ≡ ..) × ..)`, the result's part left out where it is `()`. A callee of another crate names it by `of`; its AsX stands there, or here where the table says `here`. `tells`: a fact of the values v before and v′ after the call, kept beside the equations, and where the contract has it.
+# The contract of each is `(r ≡ w) × ((first reference's last value ≡ ..) × ..)`, the result's part left out where it is `()`. A callee of another crate names it by `of`; its AsX stands there, or here where the table says `here`, or in the crate that `here` names. `tells`: a fact of the values v before and v′ after the call, kept beside the equations, and where the contract has it.
 import sys, os, re, importlib.util, subprocess
 here=os.path.dirname(os.path.abspath(__file__)); sys.path.insert(0,here)
 spec=importlib.util.spec_from_file_location('tab',sys.argv[1]); tab=importlib.util.module_from_spec(spec); spec.loader.exec_module(tab)
@@ -46,11 +46,12 @@ def walk(f):
     find(b); os.makedirs('crates/%s/proofs/%s'%(crate,f),exist_ok=True)
     w=auto_walk.Auto(crate,f,d['params'],d['res'],told(f,'r',lambda p:p[0]+'′'),cs,tab.table,tab.structs,tab.uses_specs+tab.uses_proofs,h)
     w.of={g:tab.table[g]['of'] for g in cs if 'of' in tab.table[g]}
-    w.here=[g for g in w.of if tab.table[g].get('here')]
+    at=lambda k:'Rattle.%s.proofs'%crate if k is True else 'Rattle.%s.proofs'%k
+    w.here={g:at(tab.table[g]['here']) for g in w.of if 'here' in tab.table[g]}
     if d.get('requires'): w.requires=own(d['requires'])
     w.go(d.get('pre',''))
 names=sys.argv[2:] or list(tab.table)
 open('target/mir.out','w').write(subprocess.run(['rt','mir',crate],capture_output=True,text=True).stdout)
 for f in names:
-    if not (tab.table[f].get('root') or tab.table[f].get('of') and not tab.table[f].get('here')): callee(f)
+    if not (tab.table[f].get('root') or tab.table[f].get('of') and tab.table[f].get('here') is not True): callee(f)
     if 'hand' in tab.table[f]: walk(f)

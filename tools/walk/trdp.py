@@ -22,21 +22,22 @@ use Rattle.trdp.proofs.Messages.{received}
 use Rattle.statistics.specs.declared.Statistics.{Statistics}
 use Rattle.arrival.specs.declared.Arrival.{Arrival}
 use Rattle.subscription.specs.Record.{freeRecord}
-use Rattle.subscription.specs.Table.{fits, timeCheck, subscribe, unsubscribe, telegram}
+use Rattle.subscription_table.specs.Table.{fits, timeCheck, subscribe, unsubscribe, telegram}
 use Rattle.subscription.specs.declared.Subscription.{Subscription}
 use Rattle.subscription.specs.declared.Filter.{Filter}
-use Rattle.subscriptions.specs.declared.Answer.{Answer}
-use Rattle.subscriptions.specs.declared.Reading.{Reading}
-use Rattle.subscriptions.specs.Calls.{meaning, Follows as TableFollows}
+use Rattle.subscription_decisions.specs.declared.Answer.{Answer}
+use Rattle.subscription_decisions.specs.declared.Reading.{Reading}
+use Rattle.subscriptions.specs.Calls.{Follows as TableFollows}
+use Rattle.subscription_decisions.specs.Calls.{meaning}
 use Rattle.subscriptions.specs.Receive.{Receives as TableReceives}
-use Rattle.subscriptions.specs.Read.{readBy}
+use Rattle.subscription_decisions.specs.Read.{readBy}
 use Rattle.trdp.specs.declared.Outcome.{Outcome}
 use Rattle.trdp.specs.declared.Shown.{Shown}
 use Rattle.trdp.specs.Subscriptions.{outcomeOf, Follows, Receives, Reads, ofReading, isShown}
 use Rattle.trdp.proofs.Values.{outcomeBy, shownBy, mdOutcomeBy, octetsLent, telling}
 use Rattle.trdp.proofs.Following.{saidAnswer, saidRecords, saidStore, saidStatistics, answered, counted, follows, receives, slot-reads, slot-there}
 '''
-uses_proofs=''.join('use %s.%s as %s\nuse %s.%s.Laws as %s′\n'%(c,n,k,c,n,k) for c,n,k in (('Rattle.subscription.proofs','Subscription','X'),('Rattle.subscription.proofs','Filter','F'),('Rattle.subscriptions.proofs','Answer','N'),('Rattle.arrival.proofs','Arrival','P'),('Rattle.subscriptions.proofs','Reading','Q'),('Rattle.statistics.proofs','Statistics','Z'),('Rattle.trdp.proofs','Outcome','OC'),('Rattle.trdp.proofs','Shown','SH'),('Rattle.trdp.proofs','MdOutcome','MO'),('Rattle.telegram.proofs','Family','FA')))
+uses_proofs=''.join('use %s.%s as %s\nuse %s.%s.Laws as %s′\n'%(c,n,k,c,n,k) for c,n,k in (('Rattle.subscription.proofs','Subscription','X'),('Rattle.subscription.proofs','Filter','F'),('Rattle.subscription_decisions.proofs','Answer','N'),('Rattle.arrival.proofs','Arrival','P'),('Rattle.subscription_decisions.proofs','Reading','Q'),('Rattle.statistics.proofs','Statistics','Z'),('Rattle.trdp.proofs','Outcome','OC'),('Rattle.trdp.proofs','Shown','SH'),('Rattle.trdp.proofs','MdOutcome','MO'),('Rattle.telegram.proofs','Family','FA')))
 L,ST,D,TIME,K=('l','slice','Subscription'),('st','slice','u8'),('d','shr','u8'),('time','plain','u64'),('k','plain','usize')
 F,TM,BH,AR,SS=('fl','plain','Filter'),('tm','plain','u32'),('bh','plain','u8'),('ar','plain','Arrival'),('ss','ref','Statistics')
 TB=('tb','ref','Octets')
@@ -61,7 +62,7 @@ table={
    told=lambda r,l,s,z:'TableReceives {ar} {d} {l} {st} {ss} (meaning (%s)) (%s) (%s) (%s)'%(r,l,s,z),paths=['answered %s l st r (e .answers)'%own(got),'e .records-after','e .store-after','counted ar d l st ss e']),
  'trdp_receive_pd':dict(root=True,params=[L,ST,SS,AR,D],res='Outcome',told=lambda r,l,s,z:'Receives {ar} {d} {l} {st} {ss} (%s) (%s) (%s) (%s)'%(r,l,s,z),hand=dict(said=lambda s,arm:'receives ar d l st ss')),
  'slot_at':dict(of='subscriptions',params=[T,K],res='Subscription',w='getD {t} {k} freeRecord'),
- 'read_record':dict(of='subscriptions',params=[('n₁','plain','usize'),('n₂','plain','usize'),('x','plain','Subscription')],res='Reading',w='readBy (fits {n₁} {n₂}) {x}'),
+ 'read_record':dict(of='subscription_decisions',here='subscriptions',params=[('n₁','plain','usize'),('n₂','plain','usize'),('x','plain','Subscription')],res='Reading',w='readBy (fits {n₁} {n₂}) {x}'),
  'of_reading':dict(params=[('x','plain','Reading'),K],res='Shown',w='ofReading {k} {x}',requires='isShown {x} ≡ true → {k} < 32'),
  'trdp_read':dict(root=True,params=[T,SO,K],res='Shown',told=lambda r:'Reads {k} {t} {so} (%s)'%r,hand=dict(said=lambda s,arm:'slot-reads k t so',requires=lambda s,g,n:'slot-there k t so')),
  'arrive_md':dict(params=[TB,AR,D],res='MdOutcome',w='mdOutcomeOf (%s .answer)'%heard,last=['leftBy (mdTelegram {ar} {d}) (%s .answer) (%s .after) {tb}'%(heard,heard)],told=lambda r,z:'Arrives {ar} {d} {tb} (%s) (%s)'%(r,z),paths=['e .answers','e .leaves'],

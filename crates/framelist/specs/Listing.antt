@@ -10,7 +10,7 @@ use Rattle.capture.specs.declared.frame.FrameLine.{FrameLine}
 use Rattle.capture.specs.declared.frame.FrameLine.the-variants as frame
 use Rattle.subscription.specs.declared.Subscription.{Subscription}
 use Rattle.subscription.specs.Record.{grantedRecord}
-use Rattle.subscription.specs.Table.{Table, Answer, granted, freed, delivered, marked, shows, refused, telegram, step}
+use Rattle.subscription_table.specs.Table.{Table, Answer, granted, freed, delivered, marked, shows, refused, telegram, step}
 use Rattle.subscriptions.specs.Receive.{recorded}
 use Rattle.framelist.specs.declared.listing.Totals.{Totals}
 use Rattle.framelist.specs.declared.listing.Listing.{Listing}

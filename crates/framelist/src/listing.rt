@@ -6,14 +6,14 @@ use capture::frame::FrameLine;
 use statistics::Statistics;
 use subscription::Filter;
 use subscription::Subscription;
-use subscriptions::Answer;
+use subscription_decisions::Answer;
 use topography::TopoCounts;
 ghost use mathlib.Core.Path.{_≡_};
 ghost use Prim.Native.Nat.{_≤_};
 ghost use lib.ListN.{length, take};
 ghost use Rattle.answer.specs.Answer.{Puts};
 ghost use Rattle.statistics.specs.Statistics.{noStatistics};
-ghost use Rattle.subscriptions.specs.Calls.{meaning};
+ghost use Rattle.subscription_decisions.specs.Calls.{meaning};
 ghost use Rattle.capture.specs.Frame.{frameOf, datagramOf, bufferAfter};
 ghost use Rattle.framelist.specs.Listing.{slotZero, outcomeOf, counted, Hands, Lists, outcomeWords, outcomeLine, totalLine};
 

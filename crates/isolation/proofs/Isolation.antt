@@ -10,13 +10,13 @@ use mathlib.Core.Option.{none}
 use Rattle.tables.specs.Trace.{Outcome, trace, run}
 use Rattle.tables.proofs.Trace.{same-trace}
 use Rattle.tables.proofs.View.{Stands, same-view, owns, run-part}
-use Rattle.subscription.specs.Slot.{slotOctets}
-use Rattle.subscription.specs.Table as pd
-use Rattle.subscription.specs.Watched as slot
-use Rattle.subscription.specs.Alone as slots
-use Rattle.subscription.proofs.Watched as slot-watch
-use Rattle.subscription.proofs.Lent.{fits-means}
-use Rattle.subscription.proofs.Beside as slots-beside
+use Rattle.subscription_table.specs.Slot.{slotOctets}
+use Rattle.subscription_table.specs.Table as pd
+use Rattle.subscription_table.specs.Watched as slot
+use Rattle.subscription_table.specs.Alone as slots
+use Rattle.subscription_table.proofs.Watched as slot-watch
+use Rattle.subscription_table.proofs.Lent.{fits-means}
+use Rattle.subscription_table.proofs.Beside as slots-beside
 use Rattle.session.specs.Session.{freeSession}
 use Rattle.sessions.specs.Table as md
 use Rattle.isolation.specs.Alone as session

@@ -8,10 +8,10 @@ use lib.ListN.{replicate}
 use Rattle.tables.specs.Trace.{Outcome, trace, run}
 use Rattle.tables.specs.Watch.{watched, told, watchedAlone}
 use Rattle.tables.specs.View.{View, viewed}
-use Rattle.subscription.specs.Slot.{Request, slotOctets}
-use Rattle.subscription.specs.Table as pd
-use Rattle.subscription.specs.Alone as slots
-use Rattle.subscription.specs.Watched as slot
+use Rattle.subscription_table.specs.Slot.{Request, slotOctets}
+use Rattle.subscription_table.specs.Table as pd
+use Rattle.subscription_table.specs.Alone as slots
+use Rattle.subscription_table.specs.Watched as slot
 use Rattle.session.specs.Session.{freeSession}
 use Rattle.sessions.specs.Table as md
 use Rattle.isolation.specs.Alone as session

@@ -10,10 +10,11 @@ use lib.ListN.{length, length-map, getD, take, drop, drop-of-length-le}
 use lib.Seq.{take-all, length-take-le}
 use borrow.Author.Tests.{ltb-true, ltb-false}
 use Rattle.subscription.specs.declared.Subscription.{Subscription}
-use Rattle.subscription.specs.Table.{Call, Answer, telegram, step}
-use Rattle.subscriptions.specs.Calls.{Follows, meaning}
+use Rattle.subscription_table.specs.Table.{Call, Answer, telegram, step}
+use Rattle.subscriptions.specs.Calls.{Follows}
+use Rattle.subscription_decisions.specs.Calls.{meaning}
 use Rattle.subscriptions.specs.Read.{Reads}
-use Rattle.subscriptions.specs.declared.Reading.{Reading}
+use Rattle.subscription_decisions.specs.declared.Reading.{Reading}
 use Rattle.arrival.specs.declared.Arrival.{Arrival}
 use Rattle.statistics.specs.declared.Statistics.{Statistics}
 use Rattle.subscriptions.specs.Receive as arriving

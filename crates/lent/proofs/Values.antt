@@ -16,7 +16,7 @@ use denote.Shadow.{shadow}
 use denote.Struct.Laws as LL
 use Rattle.statistics.specs.declared.Statistics.{Statistics}
 use Rattle.subscription.specs.declared.Subscription.{Subscription}
-use Rattle.subscriptions.specs.declared.Answer.{Answer}
+use Rattle.subscription_decisions.specs.declared.Answer.{Answer}
 use Rattle.lent.specs.declared.Called.{Called}
 use Rattle.lent.specs.declared.Received.{Received}
 use Rattle.lent.specs.declared.One.{One}

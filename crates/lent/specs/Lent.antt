@@ -6,8 +6,8 @@ use mathlib.Core.Bool.{cond}
 use lib.Dec.{ltb}
 use lib.ListN.{take, drop}
 use Rattle.subscription.specs.declared.Subscription.{Subscription}
-use Rattle.subscription.specs.Table as table
-use Rattle.subscription.specs.Table.{Call, Table, telegram, step}
+use Rattle.subscription_table.specs.Table as table
+use Rattle.subscription_table.specs.Table.{Call, Table, telegram, step}
 use Rattle.arrival.specs.declared.Arrival.{Arrival}
 use Rattle.statistics.specs.declared.Statistics.{Statistics}
 use Rattle.subscriptions.specs.Receive.{recorded}

@@ -11,7 +11,7 @@ use lib.ListN.{length, getD, set, replicate}
 use Rattle.octets.specs.Octets.{put}
 use Rattle.topography.specs.declared.TopoCounts.{TopoCounts}
 use Rattle.subscription.specs.Record.{freeRecord}
-use Rattle.subscription.specs.Table.{Call}
+use Rattle.subscription_table.specs.Table.{Call}
 use Rattle.line.specs.declared.Field.{Field}
 use Rattle.answer.specs.Answer.{Room, room, putPiece, putAll, Puts, Answers, ascii, word, refused}
 use Rattle.line.proofs.Fields.{first-number, number-read}

@@ -18,7 +18,7 @@ use Rattle.line.proofs.Fields.{first-number, number-read}
 use Rattle.answer.proofs.Rooms.{pieces, answered}
 use Rattle.subscription.specs.declared.Subscription.{Subscription}
 use Rattle.subscription.specs.declared.Filter.{Filter}
-use Rattle.subscription.specs.Table.{Call, subscribe, telegram, Answer, step}
+use Rattle.subscription_table.specs.Table.{Call, subscribe, telegram, Answer, step}
 use Rattle.subscriptions.specs.Receive.{recorded}
 use Rattle.lent.specs.Lent.{lentTable, Serves, Receives}
 use Rattle.scenario_pd_words.specs.Words.{answerWords}

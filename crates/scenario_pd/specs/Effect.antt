@@ -6,7 +6,7 @@ use Prim.Native.Nat.{ℕ}
 use lib.ListN.{drop}
 use Rattle.answer.specs.Answer.{Answers}
 use Rattle.subscription.specs.declared.Subscription.{Subscription}
-use Rattle.subscription.specs.Table.{Call, step}
+use Rattle.subscription_table.specs.Table.{Call, step}
 use Rattle.statistics.specs.declared.Statistics.{Statistics}
 use Rattle.subscriptions.specs.Receive.{statisticsAfter}
 use Rattle.scenario_pd_words.specs.Words.{answerWords}

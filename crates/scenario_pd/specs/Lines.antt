@@ -15,7 +15,7 @@ use Rattle.answer.specs.Answer.{ascii, word, refused}
 use Rattle.subscription.specs.declared.Subscription.{Subscription}
 use Rattle.subscription.specs.declared.Filter.{Filter}
 use Rattle.subscription.specs.Record.{freeRecord}
-use Rattle.subscription.specs.Table.{Call, subscribe, unsubscribe, telegram, timeCheck}
+use Rattle.subscription_table.specs.Table.{Call, subscribe, unsubscribe, telegram, timeCheck}
 use Rattle.scenario_pd_look.specs.declared.Slots.{Slots}
 use Rattle.scenario_pd.specs.Effect.{Effect, withRecords, saying, calling, counting, Turns}
 use Rattle.scenario_pd_look.specs.Look.{lookAnswer}

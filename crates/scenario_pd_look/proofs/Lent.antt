@@ -10,7 +10,7 @@ use borrow.Author.Tests.{leb-true, leb-false}
 use lib.Dec.{leb}
 use lib.ListN.{length, take, drop, drop-of-length-le}
 use lib.Seq.{take-all, take-length}
-use Rattle.subscription.specs.Table.{read, step}
+use Rattle.subscription_table.specs.Table.{read, step}
 use Rattle.lent.specs.Lent.{lentTable}
 use Rattle.scenario_pd_words.specs.Words.{answerWords}
 use Rattle.scenario_pd_look.specs.declared.Slots.{Slots}

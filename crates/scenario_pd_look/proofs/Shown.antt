@@ -13,13 +13,15 @@ use Rattle.answer.specs.Answer.{octets, refused as refusedWords}
 use Rattle.subscription.specs.declared.Subscription.{Subscription}
 use Rattle.subscription.specs.Record.{freeRecord}
 use Rattle.subscription.specs.Step.{shownAt}
-use Rattle.subscription.specs.Table.{Answer, granted, freed, delivered, marked, shows, refused, read, fits, step}
-use Rattle.subscriptions.specs.declared.View.{View}
-use Rattle.subscriptions.specs.declared.Reading.{Reading}
-use Rattle.subscriptions.specs.declared.Reading.the-variants.{Shows, Refused}
-use Rattle.subscriptions.specs.Read.{readBy, shown, octetsOf, Reads}
+use Rattle.subscription_table.specs.Table.{Answer, granted, freed, delivered, marked, shows, refused, read, fits, step}
+use Rattle.subscription_decisions.specs.declared.View.{View}
+use Rattle.subscription_decisions.specs.declared.Reading.{Reading}
+use Rattle.subscription_decisions.specs.declared.Reading.the-variants.{Shows, Refused}
+use Rattle.subscriptions.specs.Read.{Reads}
+use Rattle.subscription_decisions.specs.Read.{readBy, shown, octetsOf}
 use Rattle.subscriptions.proofs.Slot.{past}
-use Rattle.subscriptions.proofs.Viewing.{reads, record-shows}
+use Rattle.subscriptions.proofs.Viewing.{reads}
+use Rattle.subscription_decisions.proofs.Showing.{record-shows}
 use Rattle.lent.specs.Lent.{lentTable}
 use Rattle.scenario_pd_words.specs.Words.{answerWords, stateWords}
 

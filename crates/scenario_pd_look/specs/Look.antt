@@ -10,7 +10,7 @@ use Rattle.fcs.specs.Fcs.{crc32}
 use Rattle.line.specs.Line.{readTo, verbIs, withEnd, withOctets, withNumber, eight}
 use Rattle.answer.specs.Answer.{ascii, word, number, refused}
 use Rattle.subscription.specs.Record.{freeRecord}
-use Rattle.subscription.specs.Table.{Table, read, step}
+use Rattle.subscription_table.specs.Table.{Table, read, step}
 use Rattle.scenario_pd_words.specs.Words.{answerWords, recordWords}
 use Rattle.lent.specs.Lent.{lentTable}
 use Rattle.scenario_pd_look.specs.declared.Slots.{Slots}

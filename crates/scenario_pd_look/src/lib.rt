@@ -1,11 +1,11 @@
 // The calls that only look at subscriptions: `read`, `slot` and `part`. The program holds forty records and lends the first of them; the store is lent memory.
 use subscription::Subscription;
-use subscriptions::Reading;
+use subscription_decisions::Reading;
 ghost use mathlib.Core.Path.{_≡_};
 ghost use lib.ListN.{getD};
 ghost use Rattle.answer.specs.Answer.{Puts, Answers};
 ghost use Rattle.subscription.specs.Record.{freeRecord};
-ghost use Rattle.subscription.specs.Table as table;
+ghost use Rattle.subscription_table.specs.Table as table;
 ghost use Rattle.lent.specs.Lent.{lentTable};
 ghost use Rattle.scenario_pd_words.specs.Words.{answerWords};
 ghost use Rattle.scenario_pd_look.specs.Look.{readAnswer, slotAnswer, slotWords, partWords, partAnswer, lookAnswer};

@@ -8,7 +8,7 @@ use Rattle.subscription.specs.declared.State.the-variants.{NeverReceived, Valid
 use Rattle.subscription.specs.declared.LastTaken.{LastTaken}
 use Rattle.subscription.specs.declared.Subscription.{Subscription}
 use Rattle.subscription.specs.Record.{stateOf}
-use Rattle.subscription.specs.Table.{Answer, granted, freed, delivered, marked, shows, refused}
+use Rattle.subscription_table.specs.Table.{Answer, granted, freed, delivered, marked, shows, refused}
 
 -- `valid`, `timedout` or `never`
 abbrev pub stateWords : State → List (List ℕ)

@@ -2,9 +2,9 @@
 use subscription::LastTaken;
 use subscription::State;
 use subscription::Subscription;
-use subscriptions::Answer;
+use subscription_decisions::Answer;
 ghost use Rattle.answer.specs.Answer.{Puts};
-ghost use Rattle.subscriptions.specs.Calls.{meaning};
+ghost use Rattle.subscription_decisions.specs.Calls.{meaning};
 ghost use Rattle.scenario_pd_words.specs.Words.{answerWords, stateWords, grantedWords, lastWords, recordWords};
 
 // An answer; of a refusal its number.

@@ -1,19 +1,14 @@
 -- A slot's step, from whether it changes.
 -- Assumes nothing.
 use mathlib.Core.Path.{_≡_, refl}
-use mathlib.Core.List.{List, _++_}
-use mathlib.Core.Bool.{Bool, true, false, cond, _&&_}
+use mathlib.Core.List.{List}
+use mathlib.Core.Bool.{Bool, true, false, _&&_}
 use lib.Dec.{leb}
 use Prim.Native.Nat.{ℕ, _+_, _≤_}
 use native.Mathlib.Omega.{arith}
 use native.Mathlib.Nat.{add-zero}
-use lib.ListN.{length, drop, replicate}
-use borrow.Author.Tests.{le-leb}
-use Rattle.octets.proofs.Puts.{put-start}
+use lib.ListN.{length}
 use Rattle.subscription.specs.declared.Event.the-variants.{Telegram, Clock}
-use Rattle.subscription.specs.declared.Heard.{Heard}
-use Rattle.subscription.specs.Record.{recordTaken, recordMarked, zeroes}
-use Rattle.subscription.specs.Slot.{slotOctets, Cell, takes, taken, deliver, due, marked, mark}
 use Rattle.subscription.specs.declared.Event.{Event}
 use Rattle.subscription.specs.declared.Subscription.{Subscription}
 use Rattle.subscription.specs.declared.Tally.{Tally}
@@ -22,26 +17,6 @@ use Rattle.subscription.specs.Step.{concerns, one, reaches, changes, cha
 pub one-small : (b : Bool) → one b ≤ 1
 one-small true = omega arith
 one-small false = omega arith
-
--- a telegram that a part can hold, and the clock, step a slot as the rules say
-pub telegram-steps : (h : Heard) (dataset : List ℕ) (x : Cell) → length dataset ≤ slotOctets
-    → deliver h dataset x ≡ record { slot = recordAfter (Telegram h) (length dataset) (x .slot); octets = partAfter (Telegram h) dataset (x .slot) (x .octets) }
-unfolding slotOctets
-telegram-steps h dataset x k = rw (le-leb (length dataset) 1432 k, put-start dataset (x .octets)) (go (takes h x))
-  where
-    go : (b : Bool) → cond b (taken h dataset x) x
-        ≡ record { slot = cond b (recordTaken h (length dataset) (x .slot)) (x .slot); octets = cond b (dataset ++ drop (length dataset) (x .octets)) (x .octets) }
-    go true = refl
-    go false = refl
-
-pub clock-steps : (time : ℕ) (dataset : List ℕ) (x : Cell) → length (x .octets) ≡ slotOctets
-    → mark time x ≡ record { slot = recordAfter (Clock time) (length dataset) (x .slot); octets = partAfter (Clock time) dataset (x .slot) (x .octets) }
-clock-steps time dataset x e = rw e (go (due time x))
-  where
-    go : (b : Bool) → cond b (marked x) x
-        ≡ record { slot = cond b (recordMarked (x .slot)) (x .slot); octets = cond b (cond (zeroes (x .slot)) (replicate slotOctets 0) (x .octets)) (x .octets) }
-    go true = refl
-    go false = refl
 
 module _ (ev : Event) (dataset : List ℕ) (r : Subscription) (t : Tally) (octets : List ℕ) where
   -- what is counted of a slot

@@ -1,84 +1,35 @@
 -- A datagram that arrives, in terms of the table's rules.
 -- Assumes nothing.
-use Prim.Native.Nat.{ℕ, zero, suc, _+_, _-_, _<_, _≤_, _^_}
+use Prim.Native.Nat.{ℕ, zero, suc, _-_, _<_, _≤_, _^_}
 use native.Mathlib.Omega.{arith}
 use mathlib.Core.Path.{_≡_, refl, sym, _∙_, ap}
-use mathlib.Core.List.{List, [], _∷_, _++_}
-use mathlib.Core.Bool.{Bool, true, false, cond, not, true≢false, false≢true}
+use mathlib.Core.List.{List, [], _∷_}
+use mathlib.Core.Bool.{Bool, true, false, cond, not, false≢true}
 use lib.Dec.{eqb, ltb}
 use lib.ListN.{length, take, drop, length-drop}
 use lib.Seq.{length-take-le}
-use borrow.Author.Tests.{eqb-true, eqb-false, ltb-true}
+use borrow.Author.Tests.{eqb-true}
 use Rattle.refusal.specs.Refusal.{firstOf}
-use Rattle.refusal.proofs.Order.{orElse, firstOf-append, passed-first}
-use Rattle.topography.specs.Topography.{passes}
+use Rattle.refusal.proofs.Order.{passed-first}
 use Rattle.telegram.specs.Telegram.{commonOf, checks, datasetOf}
-use Rattle.telegram.specs.declared.Common.{Common}
 use Rattle.telegram.specs.declared.Family.the-variants as family
 use Rattle.telegram.proofs.Reading.{sound, whole}
-use Rattle.arrival.specs.Arrival.{topographyCheck, countsOf}
-use Rattle.pd.specs.Pd.{takePd, refusalOf}
-use Rattle.pd.specs.declared.PdHeader.{PdHeader}
-use Rattle.pd.specs.declared.PdTaken.{PdTaken}
-use Rattle.pd.specs.declared.PdTaken.the-variants as taken
-use Rattle.pd.specs.declared.PdTaken.the-variants.{Header}
-use Rattle.subscription.specs.Slot.{Judged, refusal, passed, judgedBy, judged, pdChecks, heardOf}
-use Rattle.subscription.specs.Table.{fits, telegram, deliveredTo, parts, records, store, slots, step}
+use Rattle.arrival.specs.Arrival.{topographyCheck}
+use Rattle.subscription_table.specs.Slot.{refusal, passed, judged, pdChecks, heardOf}
+use Rattle.subscription_table.specs.Table.{fits, telegram, deliveredTo, slots, step}
 use Rattle.arrival.specs.declared.Arrival.{Arrival}
 use Rattle.subscription.specs.declared.Event.the-variants.{Telegram}
 use Rattle.subscription.specs.declared.Heard.{Heard}
 use Rattle.subscription.specs.declared.Subscription.{Subscription}
-use Rattle.subscription.specs.declared.Tally.{Tally}
-use Rattle.subscription.proofs.Flat.{records-parts, store-parts}
-use Rattle.subscription.proofs.Lent.{fits-means}
-use Rattle.subscriptions.specs.declared.Swept.{Swept}
-use Rattle.subscriptions.specs.declared.Swept.the-variants.{Done, Refused}
-use Rattle.subscriptions.specs.declared.Answer.the-variants as answer
-use Rattle.subscriptions.specs.Calls.{Follows, meaning, deliveredBy, endOf}
+use Rattle.subscription_table.proofs.Flat.{records-parts, store-parts}
+use Rattle.subscription_table.proofs.Lent.{fits-means}
+use Rattle.subscription_decisions.specs.declared.Swept.{Swept}
+use Rattle.subscription_decisions.specs.declared.Swept.the-variants.{Done, Refused}
+use Rattle.subscription_decisions.specs.declared.Answer.the-variants as answer
+use Rattle.subscriptions.specs.Calls.{Follows}
+use Rattle.subscription_decisions.specs.Calls.{meaning, deliveredBy, endOf}
 use Rattle.subscriptions.proofs.Granting.{fit}
 use Rattle.subscriptions.proofs.Follow.{arrived, ltb-one, sweptAnswer, sweptRecords, sweptStore, telegram-follows}
-
--- ---- checks 2 to 7
-
--- 0 where the counters pass, else 7
-abbrev pub weighed : Bool → ℕ
-weighed true = 0
-weighed false = 7
-
-isHeader : PdTaken → Bool
-isHeader (Header h) = true
-isHeader (taken.Refused r) = false
-
-commonIn : Common → PdTaken → Common
-commonIn c (Header h) = h .common
-commonIn c (taken.Refused r) = c
-
--- a datagram taken apart: checks 2 to 6 gave the refusal, or none of them and 7 is judged on the header
-module _ (a : Arrival) (d : List ℕ) (t : PdTaken) (e : t ≡ takePd d) where
-  first-of : firstOf (pdChecks a d) ≡ orElse (firstOf (checks family.Pd d)) (firstOf (topographyCheck a d ∷ []))
-  first-of = firstOf-append (checks family.Pd d) (topographyCheck a d ∷ []) tt
-
-  pub taken-refused : (n : ℕ) → t ≡ taken.Refused n → refusalOf t ≡ firstOf (pdChecks a d)
-  unfolding isHeader
-  taken-refused n g = go (firstOf (checks family.Pd d)) refl
-    where
-      go : (v : ℕ) → firstOf (checks family.Pd d) ≡ v → refusalOf t ≡ firstOf (pdChecks a d)
-      go zero f = absurd (false≢true (sym (ap isHeader (sym (rw f at e) ∙ g))))
-      go (suc v) f = ap refusalOf (rw f at e) ∙ sym (first-of ∙ rw f refl)
-
-  pub taken-judged : (h : PdHeader) (p : Bool) → t ≡ Header h → p ≡ passes (countsOf (h .common)) (a .local) → weighed p ≡ firstOf (pdChecks a d)
-  unfolding isHeader commonIn
-  taken-judged h p g s = go (firstOf (checks family.Pd d)) refl
-    where
-      counts : (b : Bool) → weighed b ≡ cond (not b) 7 0
-      counts true = refl
-      counts false = refl
-
-      go : (v : ℕ) → firstOf (checks family.Pd d) ≡ v → weighed p ≡ firstOf (pdChecks a d)
-      go zero f =
-          let c : h .common ≡ commonOf d = ap (commonIn (commonOf d)) (sym g ∙ (rw f at e)) in
-          counts p ∙ rw (s, c) (sym (first-of ∙ rw f refl))
-      go (suc v) f = absurd (false≢true (ap isHeader (sym (rw f at e) ∙ g)))
 
 pub dataset-ends : (d : List ℕ) → 40 ≤ endOf d
 dataset-ends d = omega arith

@@ -12,23 +12,25 @@ use lib.Seq.{length-take-le}
 use borrow.Author.Tests.{le-leb, lt-ltb}
 use Rattle.tables.specs.Lists.{count, any}
 use Rattle.subscription.specs.Record.{recordWants, recordTakes, recordDue}
-use Rattle.subscription.specs.Slot.{Cell, Judged, judged, passed, slotOctets, wants, takes, deliver, due, mark}
+use Rattle.subscription_table.specs.Slot.{Cell, Judged, judged, passed, slotOctets, wants, takes, deliver, due, mark}
 use Rattle.subscription.specs.Step.{recordAfter, partAfter, changes, reaches, one, tallied}
-use Rattle.subscription.specs.Table as table
-use Rattle.subscription.specs.Table.{Call, telegram, timeCheck, deliveredTo, parts, records, store, slots, fits, step}
+use Rattle.subscription_table.specs.Table as table
+use Rattle.subscription_table.specs.Table.{Call, telegram, timeCheck, deliveredTo, parts, records, store, slots, fits, step}
 use Rattle.arrival.specs.declared.Arrival.{Arrival}
 use Rattle.subscription.specs.declared.Event.{Event}
 use Rattle.subscription.specs.declared.Event.the-variants.{Telegram, Clock}
 use Rattle.subscription.specs.declared.Heard.{Heard}
 use Rattle.subscription.specs.declared.Subscription.{Subscription}
 use Rattle.subscription.specs.declared.Tally.{Tally}
-use Rattle.subscription.proofs.Fitting.{judged-fits}
-use Rattle.subscription.proofs.Lent.{fits-means}
-use Rattle.subscription.proofs.Stepping.{telegram-steps, clock-steps}
-use Rattle.subscriptions.specs.Sweep.{storeAfter, tallyAfter, noTally, Sweeps}
-use Rattle.subscriptions.specs.Calls.{Follows, meaning, markedBy}
-use Rattle.subscriptions.specs.declared.Swept.{Swept}
-use Rattle.subscriptions.specs.declared.Swept.the-variants.{Done, Refused}
+use Rattle.subscription_table.proofs.Fitting.{judged-fits}
+use Rattle.subscription_table.proofs.Lent.{fits-means}
+use Rattle.subscription_table.proofs.Stepping.{telegram-steps, clock-steps}
+use Rattle.subscriptions.specs.Sweep.{storeAfter, tallyAfter, Sweeps}
+use Rattle.subscription_decisions.specs.Sweep.{noTally}
+use Rattle.subscriptions.specs.Calls.{Follows}
+use Rattle.subscription_decisions.specs.Calls.{meaning, markedBy}
+use Rattle.subscription_decisions.specs.declared.Swept.{Swept}
+use Rattle.subscription_decisions.specs.declared.Swept.the-variants.{Done, Refused}
 
 -- ---- the slots after an event that steps each of them by g
 

@@ -11,16 +11,17 @@ use lib.ListN.{length, drop, set}
 use Rattle.tables.specs.Lists.{any, lowest, next, grant}
 use Rattle.tables.proofs.Lists.{lowest-is}
 use Rattle.subscription.specs.Record.{freeRecord, unsound, grantedRecord}
-use Rattle.subscription.specs.Slot.{Cell, Request, slotOctets, grantedCell}
-use Rattle.subscription.specs.Table.{Call, Table, fits, parts, records, store, subscribe, granted, refused, early, holds, lentAfter, slots, step}
+use Rattle.subscription_table.specs.Slot.{Cell, Request, slotOctets, grantedCell}
+use Rattle.subscription_table.specs.Table.{Call, Table, fits, parts, records, store, subscribe, granted, refused, early, holds, lentAfter, slots, step}
 use Rattle.subscription.specs.declared.Filter.{Filter}
 use Rattle.subscription.specs.declared.Subscription.{Subscription}
-use Rattle.subscription.proofs.Flat.{records-parts, store-parts, records-set, store-set}
-use Rattle.subscription.proofs.Lent.{fits-means}
-use Rattle.subscriptions.specs.declared.Found.{Found}
-use Rattle.subscriptions.specs.Calls.{Follows, meaning}
+use Rattle.subscription_table.proofs.Flat.{records-parts, store-parts, records-set, store-set}
+use Rattle.subscription_table.proofs.Lent.{fits-means}
+use Rattle.subscription_decisions.specs.declared.Found.{Found}
+use Rattle.subscriptions.specs.Calls.{Follows}
+use Rattle.subscription_decisions.specs.Calls.{meaning}
 use Rattle.subscriptions.specs.Search.{foundOf, holding, isFree, foundIn}
-use Rattle.subscriptions.specs.Named.{noSlot, cleared, decided, denied}
+use Rattle.subscription_decisions.specs.Named.{noSlot, cleared, decided, denied}
 use Rattle.subscriptions.proofs.Slot.{zeroed}
 
 abbrev pub request : Filter → ℕ → ℕ → Request

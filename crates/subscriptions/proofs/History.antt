@@ -10,8 +10,9 @@ use Rattle.telegram.specs.declared.Family.the-variants.{Pd}
 use Rattle.statistics.specs.declared.Statistics.{Statistics}
 use Rattle.statistics.specs.Statistics.{added, noStatistics, Arrived, afterAll}
 use Rattle.statistics.proofs.History.{many, same, received-counts, delivered-counts, refused-counts}
-use Rattle.subscription.specs.Table.{Call, subscribe, unsubscribe, telegram, timeCheck, read, Answer, Table, step}
-use Rattle.subscriptions.specs.Receive.{uncounted, outcomeOf, recorded, statisticsAfter, statisticsOver, entered, history}
+use Rattle.subscription_table.specs.Table.{Call, subscribe, unsubscribe, telegram, timeCheck, read, Answer, Table, step}
+use Rattle.subscriptions.specs.Receive.{recorded, statisticsAfter, statisticsOver, entered, history}
+use Rattle.subscription_decisions.specs.Receive.{uncounted, outcomeOf}
 
 counted-first : (b : Bool) (o : ℕ) (more : List Arrived) (s : Statistics)
     → cond b (afterAll more s) (afterAll more (added Pd o s)) ≡ afterAll (cond b more (record { family = Pd; outcome = o } ∷ more)) s

@@ -12,16 +12,17 @@ use Rattle.telegram.specs.declared.Family.the-variants.{Pd}
 use Rattle.arrival.specs.declared.Arrival.{Arrival}
 use Rattle.statistics.specs.declared.Statistics.{Statistics}
 use Rattle.statistics.specs.Statistics.{added}
-use Rattle.subscription.specs.Slot.{pdChecks, heardOf}
+use Rattle.subscription_table.specs.Slot.{pdChecks, heardOf}
 use Rattle.subscription.specs.declared.Event.the-variants.{Telegram}
-use Rattle.subscription.specs.Table as table
-use Rattle.subscription.specs.Table.{telegram, fits, step}
+use Rattle.subscription_table.specs.Table as table
+use Rattle.subscription_table.specs.Table.{telegram, fits, step}
 use Rattle.subscription.specs.declared.Subscription.{Subscription}
-use Rattle.subscriptions.specs.declared.Answer.{Answer}
-use Rattle.subscriptions.specs.declared.Answer.the-variants.{Granted, Freed, Delivered, Marked, Refused}
-use Rattle.subscriptions.specs.Calls.{meaning, deliveredBy}
-use Rattle.subscriptions.specs.Named.{noSlot}
-use Rattle.subscriptions.specs.Receive.{Receives, uncounted, outcomeOf, recorded}
+use Rattle.subscription_decisions.specs.declared.Answer.{Answer}
+use Rattle.subscription_decisions.specs.declared.Answer.the-variants.{Granted, Freed, Delivered, Marked, Refused}
+use Rattle.subscription_decisions.specs.Calls.{meaning, deliveredBy}
+use Rattle.subscription_decisions.specs.Named.{noSlot}
+use Rattle.subscriptions.specs.Receive.{Receives, recorded}
+use Rattle.subscription_decisions.specs.Receive.{uncounted, outcomeOf}
 use Rattle.subscriptions.proofs.Granting.{unfit-follows}
 use Rattle.subscriptions.proofs.Arriving.{payload, refused-follows, received-follows}
 use Rattle.subscriptions.proofs.Follow.{sweptAnswer}

@@ -16,8 +16,9 @@ use Rattle.tables.specs.Lists.{any, lowest, next}
 use Rattle.subscription.specs.Record.{freeRecord, equal}
 use Rattle.subscription.specs.declared.Filter.{Filter}
 use Rattle.subscription.specs.declared.Subscription.{Subscription}
-use Rattle.subscriptions.specs.declared.Found.{Found}
-use Rattle.subscriptions.specs.Search.{foundOf, holding, isFree, foundIn, noneFound, looked}
+use Rattle.subscription_decisions.specs.declared.Found.{Found}
+use Rattle.subscriptions.specs.Search.{foundOf, holding, isFree, foundIn}
+use Rattle.subscription_decisions.specs.Search.{noneFound, looked}
 
 -- the records from number i on, after c
 abbrev pub from : Filter → ℕ → List Subscription → Found → Found

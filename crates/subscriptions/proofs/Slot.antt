@@ -13,13 +13,14 @@ use borrow.Author.Tests.{leb-true, leb-false}
 use Rattle.octets.specs.Octets.{put}
 use Rattle.tables.specs.Lists.{atSlot}
 use Rattle.subscription.specs.Record.{freeRecord}
-use Rattle.subscription.specs.Slot.{Cell, slotOctets, freeCell}
-use Rattle.subscription.specs.Table.{Table, fits, parts, records, store, unsubscribe, unsubscribed, slots, step}
+use Rattle.subscription_table.specs.Slot.{Cell, slotOctets, freeCell}
+use Rattle.subscription_table.specs.Table.{Table, fits, parts, records, store, unsubscribe, unsubscribed, slots, step}
 use Rattle.subscription.specs.declared.Subscription.{Subscription}
-use Rattle.subscription.proofs.Flat.{records-parts, store-parts, named-flat}
-use Rattle.subscription.proofs.Lent.{fits-means}
-use Rattle.subscriptions.specs.Calls.{Follows, meaning}
-use Rattle.subscriptions.specs.Named.{away, noSlot, cleared, releasedOf, releasedStore}
+use Rattle.subscription_table.proofs.Flat.{records-parts, store-parts, named-flat}
+use Rattle.subscription_table.proofs.Lent.{fits-means}
+use Rattle.subscriptions.specs.Calls.{Follows}
+use Rattle.subscription_decisions.specs.Calls.{meaning}
+use Rattle.subscription_decisions.specs.Named.{away, noSlot, cleared, releasedOf, releasedStore}
 
 -- the slot is there: it has a record, and a part of the store
 pub here : (rs : List Subscription) (st : List ℕ) (k : ℕ) → away (length rs) (length st) k ≡ false → (k < length rs) × (k * 1432 + 1432 ≤ length st)

@@ -1,57 +1,32 @@
 -- The sweep over the slots: what each slot leaves to the slots behind it.
 -- Assumes nothing.
-use Prim.Native.Nat.{ℕ, zero, suc, _+_, _*_, _-_, _<_, _≤_, _^_}
+use Prim.Native.Nat.{ℕ, suc, _+_, _*_, _-_, _<_, _≤_, _^_}
 use native.Mathlib.Omega.{arith}
 use native.Mathlib.Numerals.{add-one}
 use mathlib.Core.Path.{_≡_, refl, sym, _∙_, ap, subst}
 use mathlib.Core.List.{List, [], _∷_, _++_, map, append-nil, append-assoc}
-use mathlib.Core.Bool.{Bool, true, false, cond, not, _&&_, false≢true}
-use lib.Dec.{leb, ltb}
-use lib.ListN.{length, take, drop, getD, set, replicate, length-replicate, length-append, length-drop, length-set, take-append-drop, drop-of-length-le}
+use mathlib.Core.Bool.{Bool, true, false, not, false≢true}
+use lib.Dec.{ltb}
+use lib.ListN.{length, take, drop, getD, set, length-append, length-drop, length-set, take-append-drop, drop-of-length-le}
 use lib.Seq.{drop-cons, take-all, take-suc-set, drop-set-lt, append-snoc, set-getD, length-take-le, drop-drop, take-at, drop-at}
-use borrow.Author.Tests.{leb-true, ltb-true, ltb-false}
+use borrow.Author.Tests.{ltb-true, ltb-false}
 use Rattle.octets.specs.Octets.{part, put}
 use Rattle.octets.proofs.Parts.{part-length, put-mid}
-use Rattle.octets.proofs.Puts.{put-start}
-use Rattle.subscription.specs.Record.{freeRecord, recordTakes, recordDue, zeroes}
-use Rattle.subscription.specs.Slot.{slotOctets}
+use Rattle.subscription.specs.Record.{freeRecord}
+use Rattle.subscription_table.specs.Slot.{slotOctets}
 use Rattle.subscription.specs.Step.{recordAfter, partAfter, changes, reaches, concerns, tallied, Room}
-use Rattle.subscription.specs.Table.{fits}
+use Rattle.subscription_table.specs.Table.{fits}
 use Rattle.subscription.specs.declared.Event.{Event}
-use Rattle.subscription.specs.declared.Event.the-variants.{Telegram, Clock}
 use Rattle.subscription.specs.declared.Subscription.{Subscription}
 use Rattle.subscription.specs.declared.Tally.{Tally}
-use Rattle.subscription.proofs.Lent.{fits-means}
+use Rattle.subscription_table.proofs.Lent.{fits-means}
 use Rattle.subscription.proofs.Stepping.{one-small, record-stays, part-stays, tally-stays}
-use Rattle.subscriptions.specs.Sweep.{storeAfter, tallyAfter, noTally, nextConcerned, storeStepped, Sweeps}
-use Rattle.subscriptions.specs.declared.Swept.the-variants.{Done, Refused}
+use Rattle.subscriptions.specs.Sweep.{storeAfter, tallyAfter, nextConcerned, Sweeps}
+use Rattle.subscription_decisions.specs.Sweep.{noTally, storeStepped}
+use Rattle.subscription_decisions.specs.declared.Swept.the-variants.{Done, Refused}
 use Rattle.subscriptions.proofs.Granting.{fit}
 use Rattle.subscriptions.proofs.Seeking.{passes}
-
--- ---- a part that is written is as long as it was
-
-cleared-length : (b : Bool) (p : List ℕ) → length (cond b (replicate (length p) 0) p) ≡ length p
-cleared-length true p = length-replicate (length p) 0
-cleared-length false p = refl
-
-put-length : (d p : List ℕ) → length d ≤ length p → length (put 0 d p) ≡ length p
-put-length d p h = rw (put-start d p) (omega (arith, length-append d (drop (length d) p), length-drop (length d) p))
-
-both : (a b : Bool) → a && b ≡ true → a ≡ true
-both true b e = refl
-both false b e = e
-
-pub after-length : (ev : Event) (d : List ℕ) (r : Subscription) (p : List ℕ) → length p ≡ 1432 → length (partAfter ev d r p) ≡ 1432
-after-length (Clock time) d r p e = go (recordDue time r) ∙ e
-  where
-    go : (b : Bool) → length (cond b (cond (zeroes r) (replicate (length p) 0) p) p) ≡ length p
-    go true = cleared-length (zeroes r) p
-    go false = refl
-after-length (Telegram h) d r p e = go (leb (length d) 1432 && recordTakes h r) refl ∙ e
-  where
-    go : (b : Bool) → leb (length d) 1432 && recordTakes h r ≡ b → length (cond b (put 0 d p) p) ≡ length p
-    go true c = put-length d p (let k = leb-true (length d) 1432 (both (leb (length d) 1432) (recordTakes h r) c) in omega (arith, k))
-    go false c = refl
+use Rattle.subscription_decisions.proofs.Parts.{after-length}
 
 -- a part put where it was taken from
 put-part : (n k : ℕ) (s : List ℕ) → k + n ≤ length s → put k (part n k s) s ≡ s

@@ -15,18 +15,18 @@ use Rattle.subscription.proofs.Stepped as Stepped
 use Rattle.subscription.proofs.Stepped.Laws as Stepped′
 use Rattle.subscription.proofs.Filter as Filter
 use Rattle.subscription.proofs.Filter.Laws as Filter′
-use Rattle.subscriptions.proofs.Swept as Swept
-use Rattle.subscriptions.proofs.Swept.Laws as Swept′
-use Rattle.subscriptions.proofs.Answer as Answer
-use Rattle.subscriptions.proofs.Answer.Laws as Answer′
-use Rattle.subscriptions.proofs.Released as Released
-use Rattle.subscriptions.proofs.Released.Laws as Released′
-use Rattle.subscriptions.proofs.Found as Found
-use Rattle.subscriptions.proofs.Found.Laws as Found′
+use Rattle.subscription_decisions.proofs.Swept as Swept
+use Rattle.subscription_decisions.proofs.Swept.Laws as Swept′
+use Rattle.subscription_decisions.proofs.Answer as Answer
+use Rattle.subscription_decisions.proofs.Answer.Laws as Answer′
+use Rattle.subscription_decisions.proofs.Released as Released
+use Rattle.subscription_decisions.proofs.Released.Laws as Released′
+use Rattle.subscription_decisions.proofs.Found as Found
+use Rattle.subscription_decisions.proofs.Found.Laws as Found′
 use Rattle.arrival.proofs.Arrival as Arrival
 use Rattle.arrival.proofs.Arrival.Laws as Arrival′
-use Rattle.subscriptions.proofs.Reading as Reading
-use Rattle.subscriptions.proofs.Reading.Laws as Reading′
+use Rattle.subscription_decisions.proofs.Reading as Reading
+use Rattle.subscription_decisions.proofs.Reading.Laws as Reading′
 
 module _ {M : Type 1} (𝓤 : URA M) (H : Heap 𝓤) (A : Atoms 𝓤) (W : Given 𝓤 H A) where
   abbrev pub subscriptionBy : By 𝓤 H A

@@ -1,41 +1,13 @@
 -- Reading a slot of a lent table.
-use Prim.Native.Nat.{ℕ, _*_}
+use Prim.Native.Nat.{ℕ}
 use mathlib.Core.Path.{_≡_}
-use mathlib.Core.List.{List, []}
-use mathlib.Core.Bool.{Bool, cond}
-use lib.Dec.{ltb}
-use Rattle.octets.specs.Octets.{part}
-use Rattle.subscription.specs.Record.{stateOf, substitutes}
-use Rattle.subscription.specs.Slot.{slotOctets}
-use Rattle.subscription.specs.Table as table
-use Rattle.subscription.specs.Table.{step}
+use mathlib.Core.List.{List}
+use Rattle.subscription_table.specs.Table as table
+use Rattle.subscription_table.specs.Table.{step}
 use Rattle.subscription.specs.declared.Subscription.{Subscription}
-use Rattle.subscriptions.specs.declared.Reading.{Reading}
-use Rattle.subscriptions.specs.declared.Reading.the-variants.{Shows, Refused}
-
--- 1 where sizes are wrong or the record says over 1432, 10 where it is free
-abbrev pub readBy : Bool → Subscription → Reading
-readBy fit r =
-    cond fit
-    (cond (r .used)
-    (cond (ltb slotOctets (r .length)) (Refused 1) (Shows (record { state = stateOf (r .state); substitute = substitutes r; length = r .length })))
-    (Refused 10))
-    (Refused 1)
-
--- document 01's answer: the substitute set whole, or the first octets of slot k's part
-abbrev pub shown : ℕ → List ℕ → List ℕ → Reading → table.Answer
-shown k set store (Shows v) = table.shows (v .state) (cond (v .substitute) set (part (v .length) (k * slotOctets) store))
-shown k set store (Refused r) = table.refused r
+use Rattle.subscription_decisions.specs.declared.Reading.{Reading}
+use Rattle.subscription_decisions.specs.Read.{shown}
 
 -- whatever the substitute set is, the answer is the table's
 pub record Reads (k : ℕ) (records : List Subscription) (store : List ℕ) (r : Reading) : Type 0 where
   pub answers : (set : List ℕ) → shown k set store r ≡ step (table.read k set) (record { records = records; store = store }) .answer
-
--- the octets that an answer shows; none where it shows nothing
-abbrev pub octetsOf : table.Answer → List ℕ
-octetsOf (table.granted k) = []
-octetsOf table.freed = []
-octetsOf (table.delivered n) = []
-octetsOf (table.marked n) = []
-octetsOf (table.shows state octets) = octets
-octetsOf (table.refused r) = []

@@ -2,33 +2,14 @@
 use Prim.Native.Nat.{ℕ}
 use mathlib.Core.Path.{_≡_}
 use mathlib.Core.List.{List, [], _∷_}
-use mathlib.Core.Bool.{Bool, true, false, cond}
-use lib.Dec.{eqb}
-use Rattle.refusal.specs.Refusal.{sizes}
+use mathlib.Core.Bool.{cond}
 use Rattle.telegram.specs.declared.Family.the-variants.{Pd}
 use Rattle.arrival.specs.declared.Arrival.{Arrival}
 use Rattle.statistics.specs.declared.Statistics.{Statistics}
 use Rattle.statistics.specs.Statistics.{added, Arrived}
 use Rattle.subscription.specs.declared.Subscription.{Subscription}
-use Rattle.subscription.specs.Table.{Call, subscribe, unsubscribe, telegram, timeCheck, read, Answer, granted, freed, delivered, marked, shows, refused, Table, step}
-
--- refusal 1 counts nothing; nor does an answer that is no telegram's
-abbrev pub uncounted : Answer → Bool
-uncounted (granted k) = true
-uncounted freed = true
-uncounted (delivered n) = false
-uncounted (marked n) = true
-uncounted (shows state octets) = true
-uncounted (refused r) = eqb r sizes
-
--- the outcome: delivered, or the refusal number
-abbrev pub outcomeOf : Answer → ℕ
-outcomeOf (granted k) = 0
-outcomeOf freed = 0
-outcomeOf (delivered n) = 0
-outcomeOf (marked n) = 0
-outcomeOf (shows state octets) = 0
-outcomeOf (refused r) = r
+use Rattle.subscription_table.specs.Table.{Call, subscribe, unsubscribe, telegram, timeCheck, read, Answer, Table, step}
+use Rattle.subscription_decisions.specs.Receive.{uncounted, outcomeOf}
 
 -- one for received and one for the outcome
 abbrev pub recorded : Answer → Statistics → Statistics

@@ -1,13 +1,13 @@
 -- What the records of a table show of a filter: whether one in use has it, and the lowest free slot.
 use Prim.Native.Nat.{ℕ}
 use mathlib.Core.List.{List}
-use mathlib.Core.Bool.{Bool, true, false, cond, not, _&&_}
+use mathlib.Core.Bool.{Bool, true, false, not, _&&_}
 use mathlib.Core.Option.{Option, none, some}
 use Rattle.tables.specs.Lists.{any, lowest}
 use Rattle.subscription.specs.Record.{equal}
 use Rattle.subscription.specs.declared.Filter.{Filter}
 use Rattle.subscription.specs.declared.Subscription.{Subscription}
-use Rattle.subscriptions.specs.declared.Found.{Found}
+use Rattle.subscription_decisions.specs.declared.Found.{Found}
 
 abbrev pub foundOf : Bool → Option ℕ → Found
 foundOf held none = record { held = held; free = false; slot = 0 }
@@ -21,13 +21,3 @@ isFree r = not (r .used)
 
 abbrev pub foundIn : Filter → List Subscription → Found
 foundIn f rs = foundOf (any (holding f) rs) (lowest isFree rs)
-
-abbrev pub noneFound : Found
-noneFound = record { held = false; free = false; slot = 0 }
-
--- record i, after what the records before it showed
-abbrev pub looked : Filter → ℕ → Subscription → Found → Found
-looked f i r c =
-    cond (r .used)
-    (cond (equal f (r .filter)) (record { held = true; free = c .free; slot = c .slot }) c)
-    (cond (c .free) c (record { held = c .held; free = true; slot = i }))

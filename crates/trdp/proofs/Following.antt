@@ -11,21 +11,21 @@ use borrow.Author.Tests.{ltb-true}
 use Rattle.arrival.specs.declared.Arrival.{Arrival}
 use Rattle.statistics.specs.declared.Statistics.{Statistics}
 use Rattle.subscription.specs.Record.{freeRecord, stateOf, substitutes}
-use Rattle.subscription.specs.Slot.{slotOctets}
-use Rattle.subscription.specs.Table as table
-use Rattle.subscription.specs.Table.{Call, fits, step, telegram}
+use Rattle.subscription_table.specs.Slot.{slotOctets}
+use Rattle.subscription_table.specs.Table as table
+use Rattle.subscription_table.specs.Table.{Call, fits, step, telegram}
 use Rattle.subscription.specs.declared.State.{State}
 use Rattle.subscription.specs.declared.State.the-variants.{NeverReceived, Valid, TimedOut}
 use Rattle.subscription.specs.declared.Subscription.{Subscription}
-use Rattle.subscription.proofs.Lent.{fits-means}
-use Rattle.subscriptions.specs.Calls.{meaning}
-use Rattle.subscriptions.specs.Read.{readBy, shown}
+use Rattle.subscription_table.proofs.Lent.{fits-means}
+use Rattle.subscription_decisions.specs.Calls.{meaning}
+use Rattle.subscription_decisions.specs.Read.{readBy, shown}
 use Rattle.subscriptions.specs.Receive.{recorded, Receives as TableReceives}
-use Rattle.subscriptions.specs.declared.Answer.{Answer}
-use Rattle.subscriptions.specs.declared.Answer.the-variants.{Granted, Freed, Delivered, Marked, Refused}
-use Rattle.subscriptions.specs.declared.Reading.{Reading}
-use Rattle.subscriptions.specs.declared.Reading.the-variants as reading
-use Rattle.subscriptions.specs.declared.View.{View}
+use Rattle.subscription_decisions.specs.declared.Answer.{Answer}
+use Rattle.subscription_decisions.specs.declared.Answer.the-variants.{Granted, Freed, Delivered, Marked, Refused}
+use Rattle.subscription_decisions.specs.declared.Reading.{Reading}
+use Rattle.subscription_decisions.specs.declared.Reading.the-variants as reading
+use Rattle.subscription_decisions.specs.declared.View.{View}
 use Rattle.subscriptions.proofs.Viewing.{reads, not-there}
 use Rattle.trdp.specs.Subscriptions.{outcomeOf, Follows, Receives, stateNumber, ofReading, isShown, meant, Reads}
 

@@ -9,16 +9,16 @@ use Rattle.octets.specs.Octets.{part}
 use Rattle.arrival.specs.declared.Arrival.{Arrival}
 use Rattle.statistics.specs.declared.Statistics.{Statistics}
 use Rattle.subscription.specs.Record.{freeRecord, stateOf}
-use Rattle.subscription.specs.Slot.{slotOctets}
-use Rattle.subscription.specs.Table as table
-use Rattle.subscription.specs.Table.{Call, fits, step, telegram, read}
+use Rattle.subscription_table.specs.Slot.{slotOctets}
+use Rattle.subscription_table.specs.Table as table
+use Rattle.subscription_table.specs.Table.{Call, fits, step, telegram, read}
 use Rattle.subscription.specs.declared.State.{State}
 use Rattle.subscription.specs.declared.State.the-variants.{NeverReceived, Valid, TimedOut}
 use Rattle.subscription.specs.declared.Subscription.{Subscription}
-use Rattle.subscriptions.specs.Read.{readBy}
+use Rattle.subscription_decisions.specs.Read.{readBy}
 use Rattle.subscriptions.specs.Receive.{recorded}
-use Rattle.subscriptions.specs.declared.Reading.{Reading}
-use Rattle.subscriptions.specs.declared.Reading.the-variants.{Shows, Refused}
+use Rattle.subscription_decisions.specs.declared.Reading.{Reading}
+use Rattle.subscription_decisions.specs.declared.Reading.the-variants.{Shows, Refused}
 use Rattle.trdp.specs.declared.Outcome.{Outcome}
 use Rattle.trdp.specs.declared.Shown.{Shown}
 use Rattle.trdp.specs.Wire.{granted, refused}

@@ -14,9 +14,9 @@ use statistics::Statistics;
 use subscription::Filter;
 use subscription::State;
 use subscription::Subscription;
-use subscriptions::Answer;
-use subscriptions::Reading;
-use subscriptions::View;
+use subscription_decisions::Answer;
+use subscription_decisions::Reading;
+use subscription_decisions::View;
 use telegram::Common;
 use telegram::Family;
 use telegram::Written;
@@ -33,9 +33,9 @@ ghost use Rattle.statistics.specs.Statistics.{noStatistics};
 ghost use Rattle.subscription.specs.Record.{freeRecord};
 ghost use Rattle.dataset.specs.Walk.{wholeOf};
 ghost use Rattle.dataset.specs.declared.Form.the-variants as form;
-ghost use Rattle.subscription.specs.Table as table;
-ghost use Rattle.subscriptions.specs.Calls.{meaning};
-ghost use Rattle.subscriptions.specs.declared.Reading.the-variants as reading;
+ghost use Rattle.subscription_table.specs.Table as table;
+ghost use Rattle.subscription_decisions.specs.Calls.{meaning};
+ghost use Rattle.subscription_decisions.specs.declared.Reading.the-variants as reading;
 ghost use Rattle.trdp.specs.Subscriptions.{outcomeOf, Follows, Receives, stateNumber, ofReading, isShown, Reads};
 ghost use Rattle.sessions.specs.Calls as session;
 ghost use Rattle.sessions.specs.Table as messages;
@@ -462,7 +462,7 @@ pub extern "C" fn trdp_read(t: &[Subscription], store: &[u8], k: usize) -> Shown
     ensures { λ r. ⌜ Reads k (now (t .entry)) (now (store .entry)) r ⌝ }
 {
     let r = subscriptions::slot_at(t, k);
-    let x = subscriptions::read_record(t.len(), store.len(), r);
+    let x = subscription_decisions::read_record(t.len(), store.len(), r);
     of_reading(x, k)
 }
 

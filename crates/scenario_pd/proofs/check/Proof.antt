@@ -3,7 +3,7 @@ use mathlib.Core.Path.{refl, sym, _∙_}
 use Rattle.line.specs.Line.{readTo}
 use Rattle.line.proofs.Fields.{ended, first-number, unended}
 use Rattle.scenario_pd.proofs.Turning.{by-call, turned, uncalled}
-use Rattle.subscription.specs.Table.{timeCheck}
+use Rattle.subscription_table.specs.Table.{timeCheck}
 use Rattle.scenario_pd.specs.Lines.{checkCall}
 use borrow.Author.Needs.{needs}
 use Rattle.scenario_pd.proofs.check.Statement.{statement}

@@ -3,7 +3,7 @@ use mathlib.Core.Path.{_≡_, refl, sym, ap, _∙_}
 use mathlib.Core.Option.{Option, none}
 use borrow.Author.Needs.{needs}
 use Rattle.line.proofs.Said.{said-octets, unsaid}
-use Rattle.subscription.specs.Table.{Call, telegram}
+use Rattle.subscription_table.specs.Table.{Call, telegram}
 use Rattle.scenario_pd.specs.Effect.{counting}
 use Rattle.scenario_pd.specs.Lines.{arrivalIn, pdCall}
 use Rattle.scenario_pd.proofs.Turning.{by-call, uncalled, uncounted, pd-fields, same-telegram}

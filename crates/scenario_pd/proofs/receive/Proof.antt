@@ -1,7 +1,7 @@
 -- So many octets of the store are lent, and the telegram is counted.
 use mathlib.Core.Path.{refl}
 use Rattle.scenario_pd.proofs.Turning.{turned, counted}
-use Rattle.subscription.specs.Table.{telegram}
+use Rattle.subscription_table.specs.Table.{telegram}
 use borrow.Author.Needs.{needs}
 use Rattle.scenario_pd.proofs.receive.Statement.{statement}
 use Rattle.scenario_pd.proofs.receive.Tie as tie

@@ -1,6 +1,6 @@
 -- So many octets of the store are lent.
 use Rattle.scenario_pd.proofs.Turning.{turned}
-use Rattle.subscription.specs.Table.{subscribe}
+use Rattle.subscription_table.specs.Table.{subscribe}
 use borrow.Author.Needs.{needs}
 use Rattle.scenario_pd.proofs.subscribe.Statement.{statement}
 use Rattle.scenario_pd.proofs.subscribe.Tie as tie

@@ -5,7 +5,7 @@ use mathlib.Core.Option.{some}
 use Rattle.line.specs.Line.{readTo}
 use Rattle.line.proofs.Fields.{ended, first-number, unended}
 use Rattle.scenario_pd.proofs.Turning.{by-call, turned, uncalled}
-use Rattle.subscription.specs.Table.{unsubscribe}
+use Rattle.subscription_table.specs.Table.{unsubscribe}
 use Rattle.scenario_pd.specs.Lines.{unsubCall}
 use borrow.Author.Needs.{needs}
 use Rattle.scenario_pd.proofs.unsub.Statement.{statement}

@@ -7,7 +7,7 @@ use Rattle.line.specs.Line.{readTo, eight}
 use Rattle.line.proofs.Fields.{first-number}
 use Rattle.line.proofs.Said.{said-octets, unsaid}
 use Rattle.answer.proofs.Rooms.{answered-by, not-answered}
-use Rattle.subscription.specs.Table.{read, step}
+use Rattle.subscription_table.specs.Table.{read, step}
 use Rattle.scenario_pd_words.specs.Words.{answerWords}
 use Rattle.scenario_pd_look.proofs.Lent.{reads-lent}
 use Rattle.scenario_pd_look.specs.Look.{lentOf, readAnswer}

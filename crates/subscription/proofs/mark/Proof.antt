@@ -7,7 +7,7 @@ forget-requires : tie.Need-forget-requires
 forget-requires c κs = search needs
 
 returns : tie.Need-returns
-returns c = cc
+returns c = rw (c .forget .ensures)
 
 pub mark-spec : {M : Type 1} → statement M
 mark-spec = tie.close (tie.spec forget-requires returns)

@@ -40,21 +40,21 @@ use denote.Exit.{yes}
 use Rattle.walks.proofs.ByValue.{unsignedInt}
 use Rattle.walks.proofs.Steps.{shr-lent, shr-own, asks, frees-all}
 use Rattle.subscription.specs.Record.{freeRecord}
-use Rattle.subscription.specs.Table.{fits, read, step}
+use Rattle.subscription_table.specs.Table.{fits, read, step}
 use Rattle.subscription.specs.declared.Subscription.{Subscription}
 use Rattle.subscription.proofs.Subscription as X
 use Rattle.subscription.proofs.Subscription.Laws as X′
-use Rattle.subscriptions.specs.Read.{readBy, shown, octetsOf}
+use Rattle.subscription_decisions.specs.Read.{readBy, shown, octetsOf}
 use Rattle.subscriptions.proofs.Values.{subscriptionBy}
 use Rattle.subscriptions.proofs.Viewing.{reads}
 use Rattle.subscriptions.proofs.AsSlotAt as AsSlotAt
 use Rattle.subscriptions.proofs.slot_at.Symbol as slot-at-def
 use Rattle.subscriptions.proofs.slot_at.Symbol.{name as #slot-at}
 use Rattle.subscriptions.proofs.slot_at.Met as slot-at-thm
-use Rattle.subscriptions.proofs.show_record as callee
-use Rattle.subscriptions.proofs.show_record.Symbol as show-record-def
-use Rattle.subscriptions.proofs.show_record.Symbol.{name as #show-record}
-use Rattle.subscriptions.proofs.show_record.Met as show-record-thm
+use Rattle.subscription_decisions.proofs.show_record as callee
+use Rattle.subscription_decisions.proofs.show_record.Symbol as show-record-def
+use Rattle.subscription_decisions.proofs.show_record.Symbol.{name as #show-record}
+use Rattle.subscription_decisions.proofs.show_record.Met as show-record-thm
 use Rattle.subscriptions.proofs.show.Key.{name as #f}
 use Rattle.subscriptions.proofs.show as f
 use Rattle.subscriptions.proofs.show.Statement as stated
@@ -181,4 +181,4 @@ show-spec 𝓤 H 𝓜 𝓖 𝓡 =
     (tables 𝓤 H 𝓜 𝓡 code.env .C) (tables 𝓤 H 𝓜 𝓡 code.env .Λ) #f code.function (code.unfolded 𝓤 H 𝓜 𝓡)
     (meets 𝓤 H (𝓖 .A) (givenOf 𝓤 H 𝓜 𝓖) (𝓜 .mem) (𝓡 .run) (tablesOf 𝓤 H 𝓜 (tables 𝓤 H 𝓜 𝓡 code.env))
     (cited 𝓤 H (AsSlotAt.G 𝓤 H (𝓖 .A) (givenOf 𝓤 H 𝓜 𝓖) (𝓜 .mem) (𝓡 .run)) 𝓜 𝓡 code.env #slot-at slot-at-def.routine code.calls-subscriptions·slot-at (slot-at-thm.met 𝓤 H 𝓜 𝓖 𝓡))
-    (cited 𝓤 H (G 𝓤 H (𝓖 .A) (givenOf 𝓤 H 𝓜 𝓖) (𝓜 .mem) (𝓡 .run)) 𝓜 𝓡 code.env #show-record show-record-def.routine code.calls-subscriptions·show-record (show-record-thm.met 𝓤 H 𝓜 𝓖 𝓡)))
+    (cited 𝓤 H (G 𝓤 H (𝓖 .A) (givenOf 𝓤 H 𝓜 𝓖) (𝓜 .mem) (𝓡 .run)) 𝓜 𝓡 code.env #show-record show-record-def.routine code.calls-subscription-decisions·show-record (show-record-thm.met 𝓤 H 𝓜 𝓖 𝓡)))

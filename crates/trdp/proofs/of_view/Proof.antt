@@ -1,6 +1,6 @@
 -- The substitute set whole, or a part of the store.
 use borrow.Author.Needs.{needs}
-use Rattle.subscription.specs.Slot.{slotOctets}
+use Rattle.subscription_table.specs.Slot.{slotOctets}
 use Rattle.trdp.proofs.of_view.Statement.{statement}
 use Rattle.trdp.proofs.of_view.Tie as tie
 

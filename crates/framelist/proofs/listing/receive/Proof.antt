@@ -1,7 +1,7 @@
 -- The datagram's octets are the buffer's first; what slot 0 does with it is by its own contract.
 use mathlib.Core.Path.{refl, sym, ap, _∙_}
 use lib.Seq.{length-take-le}
-use Rattle.subscription.specs.Table.{Answer}
+use Rattle.subscription_table.specs.Table.{Answer}
 use Rattle.subscriptions.specs.Receive.{recorded}
 use Rattle.framelist.specs.Listing.{outcomeOf}
 use borrow.Author.Needs.{needs}
