@@ -1,3 +1,4 @@
+-- Inside the table the session is stored; behind its end storing changes nothing.
 use mathlib.Core.Path.{ap}
 use native.Mathlib.Omega.{arith}
 use borrow.Author.Needs.{needs}

@@ -1,3 +1,4 @@
+-- Inside the table the listener is read; behind its end there is a free one.
 use mathlib.Core.Path.{_∙_}
 use native.Mathlib.Omega.{arith}
 use borrow.Author.Needs.{needs}

@@ -1,3 +1,4 @@
+-- Each place has its answer.
 use mathlib.Core.Path.{sym, ap}
 use borrow.Author.Needs.{needs}
 use Rattle.refusal.specs.Refusal.{noFreeSession}

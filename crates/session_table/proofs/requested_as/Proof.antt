@@ -1,3 +1,4 @@
+-- Each place has its answer.
 use mathlib.Core.Path.{sym, ap}
 use Rattle.session_table.specs.Table.{requested, allInUse}
 use Rattle.session_table.specs.Calls.{placeAnswer}

@@ -1,3 +1,4 @@
+-- The session of the slot decides: free, owing a confirm, or in another state.
 use mathlib.Core.Path.{sym, _∙_}
 use borrow.Author.Needs.{needs}
 use Rattle.session_table.specs.declared.Answer.the-variants.{Confirmed}

@@ -1,3 +1,4 @@
+-- The type is asked first; then the session of the slot decides: free, with the user, or in another state.
 use mathlib.Core.Path.{sym, _∙_}
 use borrow.Author.Needs.{needs}
 use Rattle.session_table.specs.declared.Answer.the-variants.{Replied}
