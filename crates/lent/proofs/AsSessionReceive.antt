@@ -1,4 +1,4 @@
--- `sessions::receive` as a callee, by its contract. Written by tools/lent.
+-- `messages::receive` as a callee, by its contract. Written by tools/lent.
 -- Assumes `Given`.
 use mathlib.Core.Path.{_≡_, refl}
 use Prim.Native.Nat.{ℕ}
@@ -37,15 +37,15 @@ use Rattle.subscriptions.specs.declared.Reading.{Reading}
 use Rattle.subscriptions.specs.Calls.{Follows, meaning}
 use Rattle.subscriptions.specs.Read.{Reads}
 use Rattle.subscriptions.specs.Receive as arriving
-use Rattle.sessions.specs.Arriving as message
-use Rattle.sessions.specs.declared.Tables.{Tables as SessionTables}
-use Rattle.sessions.specs.declared.Told.{Told}
-use Rattle.sessions.proofs.Values.{tablesBy, toldBy}
+use Rattle.messages.specs.Arriving as message
+use Rattle.session_table.specs.declared.Tables.{Tables as SessionTables}
+use Rattle.session_table.specs.declared.Told.{Told}
+use Rattle.messages.proofs.Values.{tablesBy, toldBy}
 use Rattle.subscriptions.proofs.Values.{subscriptionBy, filterBy, answerBy, readingBy, arrivalBy}
 use Rattle.subscriptions.proofs.Granting.{request}
 use Rattle.lent.specs.Lent.{lentSlots, Serves, Receives}
-use Rattle.sessions.proofs.receive as callee
-use Rattle.sessions.proofs.receive.Symbol.{name as #g}
+use Rattle.messages.proofs.receive as callee
+use Rattle.messages.proofs.receive.Symbol.{name as #g}
 
 module _ {M : Type 1} (𝓤 : URA M) (H : Heap 𝓤) (A : Atoms 𝓤) (W : Given 𝓤 H A) (mem : Memory → SProp 𝓤) (run : Routine → Fun 𝓤) where
   abbrev pub G : Contract 𝓤

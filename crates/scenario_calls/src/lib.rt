@@ -6,7 +6,7 @@ use line::answer;
 use scenario_pd::Slots;
 use scenario_wire::publications;
 use scenario_wire::publications::Held;
-use sessions::Tables;
+use session_table::Tables;
 use statistics::Statistics;
 use topography::TopoCounts;
 ghost use mathlib.Core.Path.{_≡_};

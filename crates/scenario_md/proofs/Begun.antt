@@ -11,13 +11,13 @@ use lib.ListN.{length, getD}
 use Rattle.refusal.specs.Refusal.{noSlot}
 use Rattle.line.specs.Answer.{Room, Puts, Answers, spaced, refused}
 use Rattle.line.proofs.Rooms.{within}
-use Rattle.sessions.specs.declared.Tables.{Tables}
+use Rattle.session_table.specs.declared.Tables.{Tables}
 use Rattle.session.specs.declared.Session.{Session}
 use Rattle.session.specs.declared.SessionState.{SessionState}
 use Rattle.session.specs.declared.SessionState.the-variants.{Free, WaitingForReply, OwingConfirm, WithUser, WaitingForConfirm}
 use Rattle.session.specs.Session.{freeSession}
-use Rattle.sessions.specs.Table as table
-use Rattle.sessions.specs.Table.{Call, listen, unlisten, calling, telegram, reply, confirm, timeCheck, Answer, listening, freed, opened, notified, requested, taken, replied, confirmed, codes, step}
+use Rattle.session_table.specs.Table as table
+use Rattle.session_table.specs.Table.{Call, listen, unlisten, calling, telegram, reply, confirm, timeCheck, Answer, listening, freed, opened, notified, requested, taken, replied, confirmed, codes, step}
 use Rattle.scenario_md.specs.Words.{answerWords, heardWords, recordWords, slotWords}
 use Rattle.scenario_md.specs.Lines.{Asked, calls, looks}
 use Rattle.scenario_md.specs.Served.{callWords, wordsOf}

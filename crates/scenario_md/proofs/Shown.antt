@@ -18,7 +18,7 @@ use Rattle.line.proofs.Rooms.{pieces}
 use Rattle.session.specs.declared.Session.{Session}
 use Rattle.session.specs.declared.SessionState.the-variants.{Free}
 use Rattle.session.specs.Session.{freeSession}
-use Rattle.sessions.specs.Table.{taken}
+use Rattle.session_table.specs.Table.{taken}
 use Rattle.scenario_md.specs.Words.{answerWords, recordWords, slotWords}
 
 -- an array's length is that of the values that it stands for

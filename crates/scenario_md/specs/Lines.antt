@@ -8,7 +8,7 @@ use Rattle.topography.specs.declared.TopoCounts.{TopoCounts}
 use Rattle.line.specs.declared.Field.{Field}
 use Rattle.line.specs.Answer.{ascii}
 use Rattle.line.specs.Line.{verbIs, readTo, numberField, octetsField, octetsIn, withEnd, withOctets}
-use Rattle.sessions.specs.Table.{Call, listen, unlisten, calling, telegram, reply, confirm, timeCheck}
+use Rattle.session_table.specs.Table.{Call, listen, unlisten, calling, telegram, reply, confirm, timeCheck}
 
 pub data Asked : Type 0 where
   -- a call on the tables

@@ -49,9 +49,9 @@ use denote.Exit.{yes}
 use Rattle.walks.proofs.ByValue.{boolean, unsignedInt, unitBy}
 use Rattle.walks.proofs.Steps.{none-lent, both-lent, slice-lent, ref-lent, shr-lent, slice-own, ref-own, shr-own, asks, asks-last, asks-plain, asks-plain-last, meets-again, guards, Turned, rounds, goes-round, tests, loads-ref, stores-ref, loads-elem, stores-elem, looks-elem, has-none, shows-slice, hides-slice, begins-at, begins-is, takes-octets, gives-octets, frees-all}
 use Rattle.lent.proofs.AsSessionReceive as AsSessionReceive
-use Rattle.sessions.proofs.receive.Symbol as session-receive-def
-use Rattle.sessions.proofs.receive.Symbol.{name as #session-receive}
-use Rattle.sessions.proofs.receive.Met as session-receive-thm
+use Rattle.messages.proofs.receive.Symbol as session-receive-def
+use Rattle.messages.proofs.receive.Symbol.{name as #session-receive}
+use Rattle.messages.proofs.receive.Met as session-receive-thm
 use Rattle.subscription.specs.declared.Subscription.{Subscription}
 use Rattle.subscription.specs.declared.Filter.{Filter}
 use Rattle.arrival.specs.declared.Arrival.{Arrival}
@@ -63,10 +63,10 @@ use Rattle.subscriptions.specs.declared.Reading.{Reading}
 use Rattle.subscriptions.specs.Calls.{Follows, meaning}
 use Rattle.subscriptions.specs.Read.{Reads}
 use Rattle.subscriptions.specs.Receive as arriving
-use Rattle.sessions.specs.Arriving as message
-use Rattle.sessions.specs.declared.Tables.{Tables as SessionTables}
-use Rattle.sessions.specs.declared.Told.{Told}
-use Rattle.sessions.proofs.Values.{tablesBy, toldBy}
+use Rattle.messages.specs.Arriving as message
+use Rattle.session_table.specs.declared.Tables.{Tables as SessionTables}
+use Rattle.session_table.specs.declared.Told.{Told}
+use Rattle.messages.proofs.Values.{tablesBy, toldBy}
 use Rattle.subscriptions.proofs.Values.{subscriptionBy, filterBy, answerBy, readingBy, arrivalBy}
 use Rattle.subscriptions.proofs.Granting.{request}
 use Rattle.lent.specs.Lent.{lentSlots, Serves, Receives}
@@ -94,10 +94,10 @@ use Rattle.lent.proofs.Called as C
 use Rattle.lent.proofs.Called.Laws as C′
 use Rattle.lent.proofs.Received as Z
 use Rattle.lent.proofs.Received.Laws as Z′
-use Rattle.sessions.proofs.Tables as T
-use Rattle.sessions.proofs.Tables.Laws as T′
-use Rattle.sessions.proofs.Told as D
-use Rattle.sessions.proofs.Told.Laws as D′
+use Rattle.session_table.proofs.Tables as T
+use Rattle.session_table.proofs.Tables.Laws as T′
+use Rattle.session_table.proofs.Told as D
+use Rattle.session_table.proofs.Told.Laws as D′
 use Rattle.lent.proofs.Counted as U
 use Rattle.lent.proofs.Counted.Laws as U′
 use Rattle.lent.proofs.One as J
@@ -203,4 +203,4 @@ receive-counted-spec 𝓤 H 𝓜 𝓖 𝓡 =
     entered 𝓤 H (tripleOf 𝓤 H (𝓖 .A) f.signature (f.spec 𝓤 H (𝓖 .A) (𝓜 .mem) (𝓡 .run)))
     (tables 𝓤 H 𝓜 𝓡 code.env .C) (tables 𝓤 H 𝓜 𝓡 code.env .Λ) #f code.function (code.unfolded 𝓤 H 𝓜 𝓡)
     (meets 𝓤 H (𝓖 .A) (givenOf 𝓤 H 𝓜 𝓖) (𝓜 .mem) (𝓡 .run) (tablesOf 𝓤 H 𝓜 (tables 𝓤 H 𝓜 𝓡 code.env))
-    (cited 𝓤 H (AsSessionReceive.G 𝓤 H (𝓖 .A) (givenOf 𝓤 H 𝓜 𝓖) (𝓜 .mem) (𝓡 .run)) 𝓜 𝓡 code.env #session-receive session-receive-def.routine code.calls-sessions·receive (session-receive-thm.met 𝓤 H 𝓜 𝓖 𝓡)))
+    (cited 𝓤 H (AsSessionReceive.G 𝓤 H (𝓖 .A) (givenOf 𝓤 H 𝓜 𝓖) (𝓜 .mem) (𝓡 .run)) 𝓜 𝓡 code.env #session-receive session-receive-def.routine code.calls-messages·receive (session-receive-thm.met 𝓤 H 𝓜 𝓖 𝓡)))

@@ -3,7 +3,7 @@ use borrow.Author.Needs.{needs}
 use mathlib.Core.Path.{_≡_, refl, sym, _∙_}
 use mathlib.Core.Bool.{true, false}
 use Rattle.line.specs.Line.{readTo, ends}
-use Rattle.sessions.specs.Table.{timeCheck, codes}
+use Rattle.session_table.specs.Table.{timeCheck, codes}
 use Rattle.scenario_md.specs.Lines.{checkAsked}
 use Rattle.scenario_md.proofs.Lines.{ended, number-read, unended}
 use Rattle.scenario_md.proofs.Served.{asks, served, unserved}

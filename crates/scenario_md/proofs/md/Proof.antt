@@ -3,7 +3,7 @@ use borrow.Author.Needs.{needs}
 use mathlib.Core.Path.{refl, sym}
 use mathlib.Core.List.{List}
 use Prim.Native.Nat.{ℕ}
-use Rattle.sessions.specs.Table.{telegram}
+use Rattle.session_table.specs.Table.{telegram}
 use lib.ListN.{length}
 use Rattle.line.specs.Line.{readTo}
 use Rattle.scenario_md.specs.Lines.{Asked, calls, eight, mdAsked}
