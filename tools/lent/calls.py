@@ -17,10 +17,10 @@ use Rattle.subscriptions.specs.Calls.{Follows}
 use Rattle.subscription_decisions.specs.Calls.{meaning}
 use Rattle.subscriptions.specs.Read.{Reads}
 use Rattle.subscriptions.specs.Receive as arriving
-use Rattle.sessions.specs.Arriving as message
-use Rattle.sessions.specs.declared.Tables.{Tables as SessionTables}
-use Rattle.sessions.specs.declared.Told.{Told}
-use Rattle.sessions.proofs.Values.{tablesBy, toldBy}
+use Rattle.messages.specs.Arriving as message
+use Rattle.session_table.specs.declared.Tables.{Tables as SessionTables}
+use Rattle.session_table.specs.declared.Told.{Told}
+use Rattle.messages.proofs.Values.{tablesBy, toldBy}
 use Rattle.subscriptions.proofs.Values.{subscriptionBy, filterBy, answerBy, readingBy, arrivalBy}
 use Rattle.subscriptions.proofs.Granting.{request}
 use Rattle.lent.specs.Lent.{lentSlots, Serves, Receives}
@@ -49,10 +49,10 @@ use Rattle.lent.proofs.Called as C
 use Rattle.lent.proofs.Called.Laws as C′
 use Rattle.lent.proofs.Received as Z
 use Rattle.lent.proofs.Received.Laws as Z′
-use Rattle.sessions.proofs.Tables as T
-use Rattle.sessions.proofs.Tables.Laws as T′
-use Rattle.sessions.proofs.Told as D
-use Rattle.sessions.proofs.Told.Laws as D′
+use Rattle.session_table.proofs.Tables as T
+use Rattle.session_table.proofs.Tables.Laws as T′
+use Rattle.session_table.proofs.Told as D
+use Rattle.session_table.proofs.Told.Laws as D′
 use Rattle.lent.proofs.Counted as U
 use Rattle.lent.proofs.Counted.Laws as U′
 use Rattle.lent.proofs.One as J
@@ -71,7 +71,7 @@ callees={
  'unsubscribe':dict(of='subscriptions',params=[L,ST,K],res='Answer',told=follows('(unsubscribe {k})')),
  'time_check':dict(of='subscriptions',params=[L,ST,TIME],res='Answer',told=follows('(timeCheck {time})')),
  'receive':dict(of='subscriptions',params=[L,ST,('s','ref','Statistics'),AR,D],res='Answer',told=lambda r,l,st,s:'arriving.Receives {ar} {d} {l} {st} {s} (meaning (%s)) (%s) (%s) (%s)'%(r,l,st,s)),
- 'session_receive':dict(of='sessions',name='receive',params=[TB,('s','ref','Statistics'),AR,D],res='Told',told=lambda r,s:'message.Receives {ar} {d} {tb} {s} (%s) (%s)'%(r,s)),
+ 'session_receive':dict(of='messages',name='receive',params=[TB,('s','ref','Statistics'),AR,D],res='Told',told=lambda r,s:'message.Receives {ar} {d} {tb} {s} (%s) (%s)'%(r,s)),
  'read':dict(of='subscriptions',params=[('l','seen','Subscription'),SO,K],res='Reading',told=lambda r:'Reads {k} {l} {st} (%s)'%r),
 }
 whole='(slots-is .1 .0 .1)'

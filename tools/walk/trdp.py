@@ -13,7 +13,7 @@ use Rattle.statistics.specs.Statistics.{added}
 use Rattle.telegram.specs.declared.Family.{Family}
 use Rattle.telegram.specs.declared.Family.the-variants.{Md}
 use denote.Array.{Array}
-use Rattle.sessions.specs.Table.{step as mdStep, telegram as mdTelegram}
+use Rattle.session_table.specs.Table.{step as mdStep, telegram as mdTelegram}
 use Rattle.packed_calls.specs.Calls.{leftBy}
 use Rattle.packed.specs.Packed.{tablesOf as unpacked}
 use Rattle.trdp.specs.declared.MdOutcome.{MdOutcome}

@@ -19,11 +19,11 @@ use Rattle.tables.proofs.Lists.{mapped, set-map, grant-map, any-each, lowest-ea
 use Rattle.session.specs.declared.Session.{Session}
 use Rattle.session.specs.declared.SessionState.{SessionState}
 use Rattle.session.specs.declared.SessionState.the-variants.{Free, WaitingForReply, OwingConfirm, WithUser, WaitingForConfirm}
-use Rattle.sessions.specs.declared.Tables.{Tables}
+use Rattle.session_table.specs.declared.Tables.{Tables}
 use Rattle.session.specs.Listener.{freeListener}
 use Rattle.session.specs.Session.{freeSession, isFree, waitsForReply, owesConfirm, isWithUser, waitsForConfirm, has, codeOf, expired}
 use Rattle.session.specs.Session.{canTake, answered, isReply}
-use Rattle.sessions.specs.Table.{Call, listen, unlisten, calling, telegram, reply, confirm, timeCheck, Answer, opened, requested, replied, confirmed, codes, refusedPlain, allInUse, Heard, Judged, refusal, passed, judged, Kind, mn, mr, mp, mq, mc, me, kindOf, opening, takenAt, taking, ended, owing, atSession, withSessions, notifying, requesting, arriving, hearing, step, emptyTables}
+use Rattle.session_table.specs.Table.{Call, listen, unlisten, calling, telegram, reply, confirm, timeCheck, Answer, opened, requested, replied, confirmed, codes, refusedPlain, allInUse, Heard, Judged, refusal, passed, judged, Kind, mn, mr, mp, mq, mc, me, kindOf, opening, takenAt, taking, ended, owing, atSession, withSessions, notifying, requesting, arriving, hearing, step, emptyTables}
 use Rattle.isolation.specs.Alone.{numbered}
 use Rattle.isolation.specs.Beside.{Fed, arrived, replying, confirming, checked, own, Slot, free, held, single, alone, only, said, feed, Slots, sessionOf, joined, vacant, isOf, openingBeside, takingBeside, requestingBeside, heardBeside, arrivingBeside, codeIn, beside, emptySlots, SideBySide}
 use Rattle.isolation.proofs.Identifiers.{and-left, equal-same}

@@ -15,7 +15,7 @@ use Rattle.session.specs.declared.SessionState.{SessionState}
 use Rattle.session.specs.declared.SessionState.the-variants.{WaitingForConfirm}
 use Rattle.session.specs.Session.{freeSession, isFree, has, expired, isUp}
 use Rattle.session.specs.Session.{answered}
-use Rattle.sessions.specs.Table.{Answer, refusedPlain, Heard, ended, owing, atSession}
+use Rattle.session_table.specs.Table.{Answer, refusedPlain, Heard, ended, owing, atSession}
 use Rattle.isolation.proofs.Identifiers.{and-right, equal-same}
 
 unfoldable pub Kept : Session → Session → Type 0

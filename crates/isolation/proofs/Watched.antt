@@ -25,11 +25,11 @@ use Rattle.session.specs.declared.Listener.{Listener}
 use Rattle.session.specs.declared.Session.{Session}
 use Rattle.session.specs.declared.SessionState.{SessionState}
 use Rattle.session.specs.declared.SessionState.the-variants.{WaitingForReply, WithUser}
-use Rattle.sessions.specs.declared.Tables.{Tables}
+use Rattle.session_table.specs.declared.Tables.{Tables}
 use Rattle.session.specs.Listener as Listeners
 use Rattle.session.specs.Session.{freeSession, isFree, waitsForReply, owesConfirm, isWithUser, waitsForConfirm, has, codeOf, expired}
 use Rattle.session.specs.Session.{canTake, answered, isReply}
-use Rattle.sessions.specs.Table.{Call, listen, unlisten, calling, telegram, reply, confirm, timeCheck, Answer, listening, freed, opened, requested, taken, replied, confirmed, refused, refusedPlain, listenChecks, earlier, unlistened, Heard, Judged, refusal, passed, judged, judgedBy, heardOf, mdChecks, Kind, mn, mr, mp, mq, mc, me, kindOf, opening, takenAt, taking, ended, owing, atSession, withSessions, notifying, requesting, arriving, step, emptyTables}
+use Rattle.session_table.specs.Table.{Call, listen, unlisten, calling, telegram, reply, confirm, timeCheck, Answer, listening, freed, opened, requested, taken, replied, confirmed, refused, refusedPlain, listenChecks, earlier, unlistened, Heard, Judged, refusal, passed, judged, judgedBy, heardOf, mdChecks, Kind, mn, mr, mp, mq, mc, me, kindOf, opening, takenAt, taking, ended, owing, atSession, withSessions, notifying, requesting, arriving, step, emptyTables}
 use Rattle.isolation.specs.Alone.{slotAt, fed, heard, heardAlone, numbered, sessionWatch, openedAt, identifier, concerns, ownTelegram, OneSession}
 use Rattle.isolation.proofs.Identifiers.{and-left, equal-same, equal-refl}
 use Rattle.isolation.proofs.Kept.{Kept, kept-own, kept-other, has-busy, same-id, kept-ended, kept-owing, kept-answered, kept-at, kept-expired}

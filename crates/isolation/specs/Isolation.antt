@@ -13,10 +13,10 @@ use Rattle.subscription_table.specs.Table as pd
 use Rattle.subscription_table.specs.Alone as slots
 use Rattle.subscription_table.specs.Watched as slot
 use Rattle.session.specs.Session.{freeSession}
-use Rattle.sessions.specs.Table as md
+use Rattle.session_table.specs.Table as md
 use Rattle.isolation.specs.Alone as session
 use Rattle.isolation.specs.Beside as sessions
-use Rattle.sessions.specs.declared.Tables.{Tables}
+use Rattle.session_table.specs.declared.Tables.{Tables}
 
 -- a call of process data, or one of message data
 pub data Call : Type 0 where

@@ -1,4 +1,4 @@
--- `sessions::receive` as a callee, by its contract. Written by tools/lent.
+-- `messages::receive` as a callee, by its contract. Written by tools/lent.
 -- Assumes `Given`.
 use mathlib.Core.Path.{refl}
 use Prim.Native.Nat.{ℕ}
@@ -28,14 +28,14 @@ use Rattle.lent.proofs.Own.{Terms, both-terms, ref-terms, shr-terms, Ob
 use Rattle.arrival.specs.declared.Arrival.{Arrival}
 use Rattle.statistics.specs.declared.Statistics.{Statistics}
 use Rattle.statistics.proofs.Values.{statisticsBy}
-use Rattle.sessions.specs.Arriving as message
-use Rattle.sessions.specs.declared.Tables.{Tables as SessionTables}
-use Rattle.sessions.specs.declared.Told.{Told}
-use Rattle.sessions.proofs.Values.{tablesBy, toldBy}
+use Rattle.messages.specs.Arriving as message
+use Rattle.session_table.specs.declared.Tables.{Tables as SessionTables}
+use Rattle.session_table.specs.declared.Told.{Told}
+use Rattle.messages.proofs.Values.{tablesBy, toldBy}
 use Rattle.subscriptions.proofs.Values.{arrivalBy}
 use Rattle.lent.specs.Lent.{Receives}
-use Rattle.sessions.proofs.receive as callee
-use Rattle.sessions.proofs.receive.Symbol.{name as #g}
+use Rattle.messages.proofs.receive as callee
+use Rattle.messages.proofs.receive.Symbol.{name as #g}
 
 module _ {M : Type 1} (𝓤 : URA M) (H : Heap 𝓤) (A : Atoms 𝓤) (W : Given 𝓤 H A) (mem : Memory → SProp 𝓤) (run : Routine → Fun 𝓤) where
   abbrev pub G : Contract 𝓤

@@ -21,9 +21,9 @@ use Rattle.lent.specs.declared.Called.{Called}
 use Rattle.lent.specs.declared.Received.{Received}
 use Rattle.lent.specs.declared.One.{One}
 use Rattle.lent.specs.declared.Counted.{Counted}
-use Rattle.sessions.specs.declared.Told.{Told}
+use Rattle.session_table.specs.declared.Told.{Told}
 use Rattle.walks.proofs.ByValue.{By, declared}
-use Rattle.sessions.proofs.Values.{toldBy}
+use Rattle.messages.proofs.Values.{toldBy}
 use Rattle.statistics.proofs.Values.{statisticsBy}
 use Rattle.subscriptions.proofs.Values.{subscriptionBy, answerBy}
 use Rattle.subscription.proofs.Subscription as Subscription

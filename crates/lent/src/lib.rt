@@ -1,7 +1,7 @@
 // The calls over lent memory, for programs that hold their tables by value: each lends the first n of 40 slots.
 use arrival::Arrival;
-use sessions::Tables;
-use sessions::Told;
+use session_table::Tables;
+use session_table::Told;
 use statistics::Statistics;
 use subscription::Filter;
 use subscription::Subscription;
@@ -14,7 +14,7 @@ ghost use Rattle.subscription_table.specs.Table as table;
 ghost use Rattle.subscription_decisions.specs.Calls.{meaning};
 ghost use Rattle.subscriptions.specs.Read.{Reads};
 ghost use Rattle.subscriptions.specs.Receive as arriving;
-ghost use Rattle.sessions.specs.Arriving as message;
+ghost use Rattle.messages.specs.Arriving as message;
 ghost use Rattle.lent.specs.Lent.{lentSlots, Serves, Receives};
 
 // The slots after a call, and its answer.
@@ -54,7 +54,7 @@ pub struct Counted {
 pub struct Messaged {
     pub tables: Tables,
     pub statistics: Statistics,
-    pub answer: sessions::Answer,
+    pub answer: session_table::Answer,
 }
 
 // How many slots are lent: more than 40 is read as 40.
@@ -191,7 +191,7 @@ fn receive_counted(t: Tables, statistics: Statistics, a: Arrival, datagram: &[u8
     ensures { λ r. ⌜ message.Receives a (now (datagram .entry)) t statistics (r .told) (r .statistics) ⌝ }
 {
     let mut s = statistics;
-    let told = sessions::receive(t, &mut s, a, datagram);
+    let told = messages::receive(t, &mut s, a, datagram);
     Counted {
         told: told,
         statistics: s,

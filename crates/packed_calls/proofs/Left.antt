@@ -1,9 +1,9 @@
 -- What a call over the octets wrote is what the rules leave.
 -- Assumes nothing.
 use mathlib.Core.Path.{_≡_, refl, sym, ap, ap₂, subst, _∙_}
-use mathlib.Core.List.{List, [], _∷_}
-use mathlib.Core.Bool.{Bool, true, false, cond, _||_}
-use mathlib.Core.Option.{Option, none, some}
+use mathlib.Core.List.{List}
+use mathlib.Core.Bool.{Bool, true, false}
+use mathlib.Core.Option.{Option}
 use Prim.Native.Nat.{ℕ, _+_, _<_, _≤_}
 use native.Mathlib.Numerals.{add-one}
 use native.Mathlib.Omega.{arith}
@@ -12,33 +12,34 @@ use lib.IntN.{ℤ, pos}
 use lib.ListN.{length, getD, set}
 use lib.Seq.{getD-set-same, set-getD}
 use borrow.Author.Tests.{ltb-true}
-use Rattle.tables.specs.Lists.{any, lowest, next}
 use Rattle.tables.specs.Trace.{Outcome}
-use Rattle.sessions.specs.Arriving as arriving
-use Rattle.sessions.specs.Calls as call
-use Rattle.sessions.specs.Calls.{foundOf, meaning, placed, placeAnswer, Opens, refusing, keeping, keepingListener}
+use Rattle.messages.specs.Arriving as arriving
+use Rattle.session_table.specs.Sought.{foundOf}
+use Rattle.session_table.specs.Calls as call
+use Rattle.session_table.specs.Calls.{meaning, placed, placeAnswer, refusing, keeping, keepingListener}
 use Rattle.session.specs.Listener.{freeListener}
-use Rattle.session.specs.Session.{freeSession, isFree, has, isUp, expired, codeOf}
-use Rattle.sessions.specs.Table as table
-use Rattle.sessions.specs.Table.{Call, Heard}
-use Rattle.sessions.specs.declared.Answer.{Answer}
-use Rattle.sessions.specs.declared.Answer.the-variants.{Refused}
-use Rattle.sessions.specs.declared.Found.the-variants.{At}
+use Rattle.session.specs.Session.{freeSession, isUp, expired, codeOf}
+use Rattle.session_table.specs.Table as table
+use Rattle.session_table.specs.Table.{Call, Heard}
+use Rattle.session_table.specs.declared.Answer.{Answer}
+use Rattle.session_table.specs.declared.Answer.the-variants.{Refused}
+use Rattle.session_table.specs.declared.Found.the-variants.{At}
 use Rattle.session.specs.declared.Listener.{Listener}
-use Rattle.sessions.specs.declared.Place.{Place}
-use Rattle.sessions.specs.declared.Place.the-variants as place
+use Rattle.session_table.specs.declared.Place.{Place}
+use Rattle.session_table.specs.declared.Place.the-variants as place
 use Rattle.session.specs.declared.Session.{Session}
 use Rattle.session.specs.declared.SessionState.{SessionState}
 use Rattle.session.specs.declared.SessionState.the-variants.{WaitingForReply, WithUser}
-use Rattle.sessions.specs.declared.Tables.{Tables}
-use Rattle.sessions.specs.declared.Told.{Told}
+use Rattle.session_table.specs.declared.Tables.{Tables}
+use Rattle.session_table.specs.declared.Told.{Told}
 use Rattle.sessions.proofs.Answers.{called, checked}
-use Rattle.sessions.proofs.Arrived.{requests as requested}
-use Rattle.sessions.proofs.Filled.{filled, filled-more, filled-next, filled-all}
-use Rattle.sessions.proofs.Places.{in-use, full, slot}
+use Rattle.messages.proofs.Arrived.{requests as requested}
+use Rattle.session_table.proofs.Filled.{filled, filled-more, filled-next, filled-all}
+use Rattle.session_table.proofs.Places.{full}
 use Rattle.packed.specs.Packed.{tablesOf, putListener, putSession}
-use Rattle.packed_calls.specs.Calls.{isFound, withListener, withSession, leftBy, told, Follows, Gives, Places, placedIn, expiredAt, expiredIn, Expires, Checks}
-use Rattle.packed_calls.proofs.Places.{PutsSession, PutsListener, sessions-long, listeners-long}
+use Rattle.packed_calls.specs.Calls.{withListener, withSession, leftBy, told, Follows, Gives, expiredAt, expiredIn, Expires, Checks}
+use Rattle.packed_slots.specs.Slots.{PutsSession, PutsListener, Places, placedIn}
+use Rattle.packed_slots.proofs.Places.{sessions-long, listeners-long}
 
 -- ---- a record in its slot
 
@@ -81,35 +82,6 @@ module _ (o o′ : List ℕ) (a : Answer) where
   gives q f e = record { does = f; leaves = λ c. e c ∙ ap₂ (λ (x : table.Answer) (t : Tables). leftBy c x t o) (f .answers) (f .leaves) }
 
 -- ---- opening a session
-
--- one passes exactly where a lowest one is found
-pub any-found : {X : Type 0} (p : X → Bool) (xs : List X) → any p xs ≡ isFound (foundOf (lowest p xs))
-any-found p [] = refl
-any-found p (x ∷ xs) = go (p x) (any-found p xs)
-  where
-    later : (l : Option ℕ) → isFound (foundOf l) ≡ isFound (foundOf (next l))
-    later none = refl
-    later (some k) = refl
-
-    go : (b : Bool) → any p xs ≡ isFound (foundOf (lowest p xs)) → b || any p xs ≡ isFound (foundOf (cond b (some 0) (next (lowest p xs))))
-    go true e = refl
-    go false e = e ∙ later (lowest p xs)
-
-module _ (id : List ℕ) (state : SessionState) (o : List ℕ) where
-  pub places-in-use : any (has id) (tablesOf o .sessions) ≡ true → Places id state o place.InUse o
-  places-in-use e = record { opens = in-use id state (tablesOf o .sessions) e; listeners = refl; writes = refl }
-
-  pub places-full : any (has id) (tablesOf o .sessions) ≡ false → lowest (λ x. isFree (x .state)) (tablesOf o .sessions) ≡ none → Places id state o place.Full o
-  places-full e l = record { opens = full id state (tablesOf o .sessions) e l; listeners = refl; writes = refl }
-
-  pub places-slot : (k : ℕ) (o′ : List ℕ) → any (has id) (tablesOf o .sessions) ≡ false → lowest (λ x. isFree (x .state)) (tablesOf o .sessions) ≡ some k
-      → PutsSession k (record { id = id; state = state }) o o′ → Places id state o (place.Slot k) o′
-  places-slot k o′ e l p =
-      record {
-        opens = subst (λ (xs : List Session). Opens id state (tablesOf o .sessions) (record { sessions = xs; place = place.Slot k })) (sym (ap (λ (t : Tables). t .sessions) (p .means))) (slot id state (tablesOf o .sessions) k e l);
-        listeners = ap (λ (t : Tables). t .listeners) (p .means);
-        writes = p .written;
-      }
 
 -- what an opening answers, and where it wrote
 module _ (id : List ℕ) (state : SessionState) (o o′ : List ℕ) (p : Place) (w : Places id state o p o′) where

@@ -1,41 +1,22 @@
 -- The calls on listeners and sessions over the 1280 octets that a host lends: each answers what the rules say, and writes the one record that it changed.
 use Prim.Native.Nat.{ℕ, zero, suc}
 use mathlib.Core.Path.{_≡_}
-use mathlib.Core.Bool.{Bool, true, false, cond}
+use mathlib.Core.Bool.{cond}
 use mathlib.Core.List.{List}
 use lib.IntN.{ℤ}
 use lib.ListN.{getD, set}
 use Rattle.tables.specs.Trace.{Outcome}
-use Rattle.sessions.specs.Arriving as arriving
-use Rattle.sessions.specs.Calls as calls
-use Rattle.session.specs.Session.{waitsOf}
+use Rattle.messages.specs.Arriving as arriving
+use Rattle.session_table.specs.Calls as calls
 use Rattle.session.specs.Listener.{freeListener}
-use Rattle.session.specs.Session.{freeSession, isFree, has, isUp, expired}
-use Rattle.sessions.specs.Table as table
-use Rattle.session.specs.Session.{canTake}
-use Rattle.sessions.specs.Table.{Call, listen, unlisten, calling, telegram, reply, confirm, timeCheck, step}
-use Rattle.sessions.specs.declared.Answer.{Answer}
-use Rattle.sessions.specs.declared.Found.{Found}
-use Rattle.sessions.specs.declared.Found.the-variants.{At, Nothing}
-use Rattle.sessions.specs.declared.Place.{Place}
-use Rattle.sessions.specs.declared.Place.the-variants as place
+use Rattle.session.specs.Session.{freeSession, isUp, expired}
+use Rattle.session_table.specs.Table as table
+use Rattle.session_table.specs.Table.{Call, listen, unlisten, calling, telegram, reply, confirm, timeCheck, step}
+use Rattle.session_table.specs.declared.Answer.{Answer}
 use Rattle.session.specs.declared.Session.{Session}
-use Rattle.session.specs.declared.SessionState.{SessionState}
-use Rattle.sessions.specs.declared.Tables.{Tables}
-use Rattle.sessions.specs.declared.Told.{Told}
-use Rattle.packed_calls.specs.declared.slots.Sought.{Sought}
-use Rattle.packed_calls.specs.declared.slots.Sought.the-variants.{Vacant, InUse, Waiting}
+use Rattle.session_table.specs.declared.Tables.{Tables}
+use Rattle.session_table.specs.declared.Told.{Told}
 use Rattle.packed.specs.Packed.{tablesOf, putListener, putSession}
-
--- what a session is sought for: it is free; it is in use with an identifier; it can take what comes with one
-abbrev pub soughtBy : Sought → List ℕ → Session → Bool
-soughtBy Vacant id x = isFree (x .state)
-soughtBy InUse id x = has id x
-soughtBy (Waiting w) id x = canTake (waitsOf w) id x
-
-abbrev pub isFound : Found → Bool
-isFound (At k) = true
-isFound Nothing = false
 
 -- the slot that a call names
 abbrev pub named : Call → ℕ
@@ -99,17 +80,6 @@ pub record Follows (c : Call) (octets : List ℕ) (a : Answer) (octets′ : List
 pub record Gives (octets : List ℕ) (o : Outcome table.Answer (List Session)) (a : Answer) (octets′ : List ℕ) : Type 0 where
   pub does : arriving.Gives (tablesOf octets) o (told octets′ a)
   pub leaves : (c : Call) → octets′ ≡ leftBy c (o .answer) (record { listeners = tablesOf octets .listeners; sessions = o .after }) octets
-
--- a session opened in lent octets, and written at its place
-abbrev pub placedIn : Place → Session → List ℕ → List ℕ
-placedIn place.InUse x octets = octets
-placedIn place.Full x octets = octets
-placedIn (place.Slot k) x octets = putSession k x octets
-
-pub record Places (id : List ℕ) (state : SessionState) (octets : List ℕ) (p : Place) (octets′ : List ℕ) : Type 0 where
-  pub opens : calls.Opens id state (tablesOf octets .sessions) (record { sessions = tablesOf octets′ .sessions; place = p })
-  pub listeners : tablesOf octets′ .listeners ≡ tablesOf octets .listeners
-  pub writes : octets′ ≡ placedIn p (record { id = id; state = state }) octets
 
 -- one session's time looked at
 pub record Expires (time k : ℕ) (octets octets′ : List ℕ) : Type 0 where

@@ -1,25 +1,23 @@
 // The calls on listeners and sessions over the octets: each looks at the records that it needs, and writes the one that it changed.
-pub mod slots;
-
-use crate::slots::Sought;
 use address::SenderRange;
 use arrival::Arrival;
 use md::MdTaken;
+use messages::Message;
 use session::Listener;
 use session::Session;
 use session::SessionState;
 use session::Waits;
-use sessions::Answer;
-use sessions::Found;
-use sessions::Message;
+use session_table::Answer;
+use session_table::Found;
+use session_table::ListenerSought;
+use session_table::Sought;
 use timing::Timing;
 ghost use mathlib.Core.Path.{_≡_};
 ghost use lib.ListN.{length};
-ghost use Rattle.sessions.specs.Table as table;
-ghost use Rattle.sessions.specs.Table.{hearing, notifying, requesting, taking, ended, owing, arriving, kindOf};
-ghost use Rattle.session.specs.Session.{waitsForReply};
-ghost use Rattle.session.specs.Session.{waitsOf};
-ghost use Rattle.sessions.specs.Arriving.{heardBy, byIdentifier};
+ghost use Rattle.session_table.specs.Table as table;
+ghost use Rattle.session_table.specs.Table.{hearing, notifying, requesting, taking, ended, owing, arriving, kindOf};
+ghost use Rattle.session.specs.Session.{waitsForReply, waitsOf};
+ghost use Rattle.messages.specs.Arriving.{heardBy, byIdentifier};
 ghost use Rattle.packed.specs.Packed.{tablesOf};
 ghost use Rattle.packed_calls.specs.Calls.{Follows, Gives, Expires, Checks};
 
@@ -29,11 +27,11 @@ pub fn listen(octets: &mut [u8], com_id: u32, senders: SenderRange, uri: [u8; 32
     ensures { λ r. ⌜ Follows (table.listen «com_id» senders uri) (now (octets .entry)) r (now (octets .exit)) ⌝ }
 {
     let ls = packed::unpack_listeners(octets);
-    let n = sessions::judge_listener(ls, com_id, senders, uri);
+    let n = session_table::judge_listener(ls, com_id, senders, uri);
     if n != 0 {
         return Answer::Refused(n, 0);
     }
-    let f = sessions::free_listener(ls);
+    let f = session_table::find_listener(ls, ListenerSought::Vacant, &uri);
     let Found::At(k) = f else {
         return Answer::Refused(refusal::NO_FREE_SLOT, 0);
     };
@@ -43,7 +41,7 @@ pub fn listen(octets: &mut [u8], com_id: u32, senders: SenderRange, uri: [u8; 32
         senders: senders,
         uri: uri,
     };
-    crate::slots::put_listener(octets, k, l);
+    packed_slots::put_listener(octets, k, l);
     Answer::Listening(k)
 }
 
@@ -52,10 +50,10 @@ pub fn unlisten(octets: &mut [u8], k: usize) -> Answer
     requires { ⌜ length (now octets) ≡ 1280 ⌝ }
     ensures { λ r. ⌜ Follows (table.unlisten k) (now (octets .entry)) r (now (octets .exit)) ⌝ }
 {
-    let l = crate::slots::listener_at(octets, k);
+    let l = packed_slots::listener_at(octets, k);
     if l.used {
         let none = session::no_listener();
-        crate::slots::put_listener(octets, k, none);
+        packed_slots::put_listener(octets, k, none);
         return Answer::Freed;
     }
     Answer::Refused(refusal::NO_SLOT, 0)
@@ -70,8 +68,8 @@ pub fn call(octets: &mut [u8], id: [u8; 16], timeout: u32, time: u64) -> Answer
         start: time,
         timeout: timeout,
     };
-    let place = crate::slots::open(octets, id, SessionState::WaitingForReply(waits));
-    sessions::opened_as(place)
+    let place = packed_slots::open(octets, id, SessionState::WaitingForReply(waits));
+    session_table::opened_as(place)
 }
 
 // The user's reply to the session of a slot: 5, 10, 19.
@@ -80,14 +78,14 @@ pub fn reply(octets: &mut [u8], k: usize, msg_type: u16, timeout: u32, time: u64
     ensures { λ r. ⌜ Follows (table.reply k «msg_type» timeout time) (now (octets .entry)) r (now (octets .exit)) ⌝ }
 {
     if session::is_reply(msg_type) {
-        let x = crate::slots::session_at(octets, k);
+        let x = packed_slots::session_at(octets, k);
         let s = x.state;
         if session::is_free(s) {
             return Answer::Refused(refusal::NO_SLOT, 0);
         }
         if session::is_with_user(s) {
             let y = session::answer_as(x, msg_type, timeout, time);
-            crate::slots::put_session(octets, k, y);
+            packed_slots::put_session(octets, k, y);
             return Answer::Replied;
         }
         return Answer::Refused(refusal::NO_SESSION, 0);
@@ -100,14 +98,14 @@ pub fn confirm(octets: &mut [u8], k: usize) -> Answer
     requires { ⌜ length (now octets) ≡ 1280 ⌝ }
     ensures { λ r. ⌜ Follows (table.confirm k) (now (octets .entry)) r (now (octets .exit)) ⌝ }
 {
-    let x = crate::slots::session_at(octets, k);
+    let x = packed_slots::session_at(octets, k);
     let s = x.state;
     if session::is_free(s) {
         return Answer::Refused(refusal::NO_SLOT, 0);
     }
     if session::owes_confirm(s) {
         let y = session::no_session();
-        crate::slots::put_session(octets, k, y);
+        packed_slots::put_session(octets, k, y);
         return Answer::Confirmed;
     }
     Answer::Refused(refusal::NO_SESSION, 0)
@@ -118,7 +116,11 @@ fn notify(octets: &[u8], m: Message, destination: &[u8]) -> Answer
     requires { ⌜ length (now octets) ≡ 1280 ⌝ }
     ensures { λ r. ⌜ Gives (now (octets .entry)) (notifying (hearing (heardBy m (now (destination .entry))) (tablesOf (now (octets .entry)) .listeners)) (tablesOf (now (octets .entry)) .sessions)) r (now (octets .entry)) ⌝ }
 {
-    let f = crate::slots::find_listener(octets, m.com_id, m.sender, destination);
+    let f = packed_slots::find_listener(
+        octets,
+        ListenerSought::Hearing(m.com_id, m.sender),
+        destination,
+    );
     let Found::At(l) = f else {
         return Answer::Refused(refusal::NO_MATCH, 0);
     };
@@ -130,7 +132,11 @@ fn request(octets: &mut [u8], m: Message, destination: &[u8]) -> Answer
     requires { ⌜ length (now octets) ≡ 1280 ⌝ }
     ensures { λ r. ⌜ Gives (now (octets .entry)) (requesting (hearing (heardBy m (now (destination .entry))) (tablesOf (now (octets .entry)) .listeners)) (heardBy m (now (destination .entry))) (tablesOf (now (octets .entry)) .sessions)) r (now (octets .exit)) ⌝ }
 {
-    let f = crate::slots::find_listener(octets, m.com_id, m.sender, destination);
+    let f = packed_slots::find_listener(
+        octets,
+        ListenerSought::Hearing(m.com_id, m.sender),
+        destination,
+    );
     let Found::At(l) = f else {
         return Answer::Refused(refusal::NO_MATCH, -3);
     };
@@ -139,8 +145,8 @@ fn request(octets: &mut [u8], m: Message, destination: &[u8]) -> Answer
         timeout: m.timeout,
     };
     let id = m.id;
-    let place = crate::slots::open(octets, id, SessionState::WithUser(waits));
-    sessions::requested_as(place, l)
+    let place = packed_slots::open(octets, id, SessionState::WithUser(waits));
+    session_table::requested_as(place, l)
 }
 
 // Mp, Me and Mc: 19, else the session is freed.
@@ -149,12 +155,12 @@ fn end_session(octets: &mut [u8], m: Message, w: Waits) -> Answer
     ensures { λ r. ⌜ Gives (now (octets .entry)) (taking (waitsOf w) ended (byIdentifier m) (tablesOf (now (octets .entry)) .sessions)) r (now (octets .exit)) ⌝ }
 {
     let id = m.id;
-    let f = crate::slots::find_session(octets, id, Sought::Waiting(w));
+    let f = packed_slots::find_session(octets, id, Sought::Waiting(w));
     let Found::At(k) = f else {
         return Answer::Refused(refusal::NO_SESSION, 0);
     };
     let none = session::no_session();
-    crate::slots::put_session(octets, k, none);
+    packed_slots::put_session(octets, k, none);
     Answer::Taken(m.status, k)
 }
 
@@ -164,7 +170,7 @@ fn owe_confirm(octets: &mut [u8], m: Message) -> Answer
     ensures { λ r. ⌜ Gives (now (octets .entry)) (taking waitsForReply (owing (byIdentifier m)) (byIdentifier m) (tablesOf (now (octets .entry)) .sessions)) r (now (octets .exit)) ⌝ }
 {
     let id = m.id;
-    let f = crate::slots::find_session(octets, id, Sought::Waiting(Waits::Reply));
+    let f = packed_slots::find_session(octets, id, Sought::Waiting(Waits::Reply));
     let Found::At(k) = f else {
         return Answer::Refused(refusal::NO_SESSION, 0);
     };
@@ -172,13 +178,13 @@ fn owe_confirm(octets: &mut [u8], m: Message) -> Answer
         start: m.time,
         timeout: m.timeout,
     };
-    let x = crate::slots::session_at(octets, k);
+    let x = packed_slots::session_at(octets, k);
     let own = x.id;
     let owes = Session {
         id: own,
         state: SessionState::OwingConfirm(waits),
     };
-    crate::slots::put_session(octets, k, owes);
+    packed_slots::put_session(octets, k, owes);
     Answer::Taken(m.status, k)
 }
 
@@ -216,7 +222,7 @@ pub fn arrive(octets: &mut [u8], a: Arrival, datagram: &[u8]) -> Answer
     };
     let c = h.common;
     if arrival::is_local(c, a) {
-        if sessions::has_sound_uris(datagram) {
+        if messages::has_sound_uris(datagram) {
             let id = md::session_id(datagram);
             let m = Message {
                 msg_type: c.msg_type,
@@ -239,11 +245,11 @@ fn expire(octets: &mut [u8], k: usize, time: u64)
     requires { ⌜ length (now octets) ≡ 1280 ⌝ }
     ensures { λ _. ⌜ Expires time k (now (octets .entry)) (now (octets .exit)) ⌝ }
 {
-    let x = crate::slots::session_at(octets, k);
+    let x = packed_slots::session_at(octets, k);
     let s = x.state;
     if session::is_up(s, time) {
         let none = session::no_session();
-        crate::slots::put_session(octets, k, none);
+        packed_slots::put_session(octets, k, none);
     }
 }
 
@@ -255,7 +261,7 @@ pub fn time_check(octets: &mut [u8], time: u64) -> [i32; 16]
     let mut codes = [0i32; 16];
     let mut i: usize = 0;
     while i < 16 {
-        let x = crate::slots::session_at(octets, i);
+        let x = packed_slots::session_at(octets, i);
         let s = x.state;
         codes[i] = session::code_of(s, time);
         expire(octets, i, time);

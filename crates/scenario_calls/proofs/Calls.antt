@@ -32,7 +32,7 @@ use Rattle.session.specs.declared.Session.{Session}
 use Rattle.session.specs.Listener.{freeListener}
 use Rattle.session.specs.Session.{freeSession}
 use Rattle.subscription.specs.declared.Subscription.{Subscription}
-use Rattle.sessions.specs.declared.Tables.{Tables}
+use Rattle.session_table.specs.declared.Tables.{Tables}
 use Rattle.scenario_md.specs.Lines.{askedOf}
 use Rattle.scenario_md.specs.declared.Outcome.{Outcome as MessageOutcome}
 use Rattle.scenario_md.specs.Served as md

@@ -11,7 +11,7 @@ use Rattle.statistics.specs.Statistics.{noStatistics}
 use Rattle.subscription.specs.Record.{freeRecord}
 use Rattle.session.specs.Listener.{freeListener}
 use Rattle.session.specs.Session.{freeSession}
-use Rattle.sessions.specs.declared.Tables.{Tables}
+use Rattle.session_table.specs.declared.Tables.{Tables}
 use Rattle.line.specs.declared.Field.{Field}
 use Rattle.line.specs.Line.{readTo, verbIs, ends, withEnd, withNumber, eight}
 use Rattle.answer.specs.Answer.{ascii, word, Puts, Answers}

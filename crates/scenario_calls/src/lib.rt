@@ -5,7 +5,7 @@ mod counters;
 use scenario_pd_look::Slots;
 use scenario_wire::publications;
 use scenario_wire::publications::Held;
-use sessions::Tables;
+use session_table::Tables;
 use statistics::Statistics;
 use topography::TopoCounts;
 ghost use mathlib.Core.Path.{_≡_};

@@ -11,12 +11,12 @@ use Rattle.arrival.specs.declared.Arrival.{Arrival}
 use Rattle.telegram.specs.declared.Family.the-variants.{Md}
 use Rattle.statistics.specs.Statistics.{added}
 use Rattle.statistics.specs.declared.Statistics.{Statistics}
-use Rattle.sessions.specs.declared.Tables.{Tables}
-use Rattle.sessions.specs.declared.Told.{Told}
-use Rattle.sessions.specs.Calls.{meaning, Follows}
-use Rattle.sessions.specs.History.{statisticsAfter}
-use Rattle.sessions.specs.Arriving.{outcomeOf, Receives}
-use Rattle.sessions.specs.Table.{Call, listen, unlisten, calling, telegram, reply, confirm, Answer, step}
+use Rattle.session_table.specs.declared.Tables.{Tables}
+use Rattle.session_table.specs.declared.Told.{Told}
+use Rattle.session_table.specs.Calls.{meaning, Follows}
+use Rattle.messages.specs.History.{statisticsAfter}
+use Rattle.messages.specs.Arriving.{outcomeOf, Receives}
+use Rattle.session_table.specs.Table.{Call, listen, unlisten, calling, telegram, reply, confirm, Answer, step}
 use Rattle.scenario_md.specs.declared.Called.{Called}
 use Rattle.scenario_md.specs.declared.Outcome.{Outcome}
 use Rattle.scenario_md_words.specs.Words.{answerWords, heardWords, slotWords}

@@ -7,7 +7,7 @@ use Rattle.arrival.specs.declared.Arrival.{Arrival}
 use Rattle.topography.specs.declared.TopoCounts.{TopoCounts}
 use Rattle.answer.specs.Answer.{ascii}
 use Rattle.line.specs.Line.{verbIs, readTo, withNumber, withField, withEnd, withOctets, eight, four}
-use Rattle.sessions.specs.Table.{Call, listen, unlisten, calling, telegram, reply, confirm, timeCheck}
+use Rattle.session_table.specs.Table.{Call, listen, unlisten, calling, telegram, reply, confirm, timeCheck}
 
 pub data Asked : Type 0 where
   -- a call on the tables

@@ -5,11 +5,11 @@ use mathlib.Core.List.{List}
 use mathlib.Core.Option.{Option, none, some}
 use Rattle.answer.specs.Answer.{Puts, Answers}
 use Rattle.statistics.specs.declared.Statistics.{Statistics}
-use Rattle.sessions.specs.declared.Tables.{Tables}
-use Rattle.sessions.specs.declared.Told.{Told}
-use Rattle.sessions.specs.Calls.{meaning}
-use Rattle.sessions.specs.History.{statisticsAfter}
-use Rattle.sessions.specs.Table.{Call, listen, unlisten, calling, telegram, reply, confirm, timeCheck, Answer, step}
+use Rattle.session_table.specs.declared.Tables.{Tables}
+use Rattle.session_table.specs.declared.Told.{Told}
+use Rattle.session_table.specs.Calls.{meaning}
+use Rattle.messages.specs.History.{statisticsAfter}
+use Rattle.session_table.specs.Table.{Call, listen, unlisten, calling, telegram, reply, confirm, timeCheck, Answer, step}
 use Rattle.scenario_md.specs.declared.Called.{Called}
 use Rattle.scenario_md.specs.declared.Outcome.{Outcome}
 use Rattle.scenario_md_words.specs.Words.{answerWords, heardWords, slotWords}

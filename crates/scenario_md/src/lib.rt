@@ -1,8 +1,8 @@
 // The calls over listeners and sessions.
 use address::SenderRange;
 use arrival::Arrival;
-use sessions::Tables;
-use sessions::Told;
+use session_table::Tables;
+use session_table::Told;
 use statistics::Statistics;
 use topography::TopoCounts;
 ghost use mathlib.Core.Path.{_≡_};
@@ -10,7 +10,7 @@ ghost use mathlib.Core.Option.{some};
 ghost use lib.ListN.{replicate};
 ghost use Rattle.session.specs.Listener.{freeListener};
 ghost use Rattle.session.specs.Session.{freeSession};
-ghost use Rattle.sessions.specs.Table.{telegram};
+ghost use Rattle.session_table.specs.Table.{telegram};
 ghost use Rattle.scenario_md.specs.Lines.{calls, listenAsked, unlistenAsked, callAsked, mdAsked, replyAsked, confirmAsked, checkAsked, sessionAsked, lookAsked, exchangeAsked, userAsked, askedOf};
 ghost use Rattle.scenario_md.specs.Served.{Tells, Serves, Answered};
 

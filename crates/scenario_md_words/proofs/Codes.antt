@@ -9,7 +9,7 @@ use lib.ListN.{length, getD, drop, drop-of-length-le}
 use lib.Seq.{drop-cons}
 use Rattle.answer.specs.Answer.{Room, room, putAll, Puts, word, signed}
 use Rattle.answer.proofs.Rooms.{putAll-append}
-use Rattle.sessions.specs.Table.{codes}
+use Rattle.session_table.specs.Table.{codes}
 use Rattle.scenario_md_words.specs.Words.{allSigned, answerWords}
 
 -- what is left to put, from a room

@@ -16,8 +16,8 @@ use Rattle.answer.specs.Answer.{Puts, word, number, decimal, refused}
 use Rattle.answer.proofs.Rooms.{pieces}
 use Rattle.session.specs.declared.Session.{Session}
 use Rattle.session.specs.Session.{freeSession}
-use Rattle.sessions.specs.Table.{taken}
-use Rattle.sessions.proofs.Arrays.{blankSession, inside}
+use Rattle.session_table.specs.Table.{taken}
+use Rattle.session_table.proofs.Arrays.{blankSession, inside}
 use Rattle.scenario_md_words.specs.Words.{answerWords, recordWords, slotWords}
 
 module _ {at r : ℕ} {o o′ : List ℕ} where

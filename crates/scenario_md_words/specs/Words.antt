@@ -13,8 +13,8 @@ use Rattle.session.specs.declared.Session.{Session}
 use Rattle.session.specs.declared.SessionState.{SessionState}
 use Rattle.session.specs.declared.SessionState.the-variants.{Free, WaitingForReply, OwingConfirm, WithUser, WaitingForConfirm}
 use Rattle.session.specs.Session.{freeSession}
-use Rattle.sessions.specs.Table as table
-use Rattle.sessions.specs.Table.{Answer, listening, freed, opened, notified, requested, taken, replied, confirmed, codes}
+use Rattle.session_table.specs.Table as table
+use Rattle.session_table.specs.Table.{Answer, listening, freed, opened, notified, requested, taken, replied, confirmed, codes}
 
 -- signed numbers one after the other
 abbrev pub allSigned : List ℤ → List (List ℕ)

@@ -1,12 +1,12 @@
 // What the calls over listeners and sessions answer, in words.
 use session::Session;
 use session::SessionState;
-use sessions::Answer;
-use sessions::Tables;
+use session_table::Answer;
+use session_table::Tables;
 use timing::Timing;
 ghost use Rattle.answer.specs.Answer.{Puts};
-ghost use Rattle.sessions.specs.Calls.{meaning};
-ghost use Rattle.sessions.specs.Table.{requested, taken, codes as codesTold};
+ghost use Rattle.session_table.specs.Calls.{meaning};
+ghost use Rattle.session_table.specs.Table.{requested, taken, codes as codesTold};
 ghost use Rattle.scenario_md_words.specs.Words.{answerWords, statusWords, heardWords, usedWords, recordWords, slotWords};
 
 // A request: the listener and the session's slot.

@@ -1,46 +1,32 @@
 -- What each call's code has found, and the rule that it follows.
 -- Assumes nothing.
-use mathlib.Core.Path.{_≡_, refl, sym, ap, subst, _∙_}
-use mathlib.Core.Bool.{Bool, true, false, cond}
+use mathlib.Core.Path.{_≡_, refl, ap, subst, _∙_}
+use mathlib.Core.Bool.{Bool, true, false}
 use mathlib.Core.List.{List, map}
-use mathlib.Core.Option.{Option, none, some}
 use Prim.Native.Nat.{ℕ}
 use lib.IntN.{ℤ}
 use lib.ListN.{getD, set}
 use lib.Seq.{set-getD}
-use Rattle.refusal.specs.Refusal.{msgType, noSlot, sessionInUse, noSession}
+use Rattle.refusal.specs.Refusal.{msgType, noSlot, noSession}
 use Rattle.tables.specs.Trace.{Outcome}
-use Rattle.tables.specs.Lists.{any, lowest, grant, atSlot}
-use Rattle.sessions.specs.declared.Answer.{Answer}
-use Rattle.sessions.specs.declared.Answer.the-variants.{Freed, Replied, Confirmed}
+use Rattle.tables.specs.Lists.{atSlot}
+use Rattle.session_table.specs.declared.Answer.{Answer}
+use Rattle.session_table.specs.declared.Answer.the-variants.{Freed, Replied, Confirmed}
 use Rattle.session.specs.declared.Listener.{Listener}
-use Rattle.sessions.specs.declared.Opening.{Opening}
+use Rattle.session_table.specs.declared.Opening.{Opening}
 use Rattle.session.specs.declared.Session.{Session}
 use Rattle.session.specs.declared.SessionState.{SessionState}
 use Rattle.session.specs.declared.SessionState.the-variants.{WaitingForReply}
-use Rattle.sessions.specs.declared.Tables.{Tables}
-use Rattle.sessions.specs.declared.Told.{Told}
+use Rattle.session_table.specs.declared.Tables.{Tables}
+use Rattle.session_table.specs.declared.Told.{Told}
 use Rattle.session.specs.Listener.{freeListener}
-use Rattle.session.specs.Session.{freeSession, isFree, has, isWithUser, owesConfirm, codeOf, expired}
-use Rattle.sessions.specs.Table as table
-use Rattle.session.specs.Session.{answered, isReply}
-use Rattle.sessions.specs.Table.{refusedPlain, atSession, ended, withSessions}
-use Rattle.sessions.specs.Calls.{meaning, placeOf, placed, placeAnswer, Opens, Follows, Checks, refusing, keeping, keepingListener}
+use Rattle.session.specs.Session.{freeSession, isFree, isWithUser, owesConfirm, codeOf, expired, answered, isReply}
+use Rattle.session_table.specs.Table as table
+use Rattle.session_table.specs.Table.{refusedPlain, atSession, ended, withSessions}
+use Rattle.session_table.proofs.Rules.{opens-answer, opens-after, follows}
+use Rattle.session_table.specs.Calls.{meaning, placeAnswer, Opens, Follows, Checks, refusing, keeping, keepingListener}
 
 -- ---- opening a session
-
-module _ (given : ℕ → table.Answer) (full : table.Answer) (new : Session) (xs : List Session) where
-  pub grant-answer : (b : Bool) (l : Option ℕ) → grant (cond b (some (refusedPlain sessionInUse)) none) l full given new xs .answer ≡ placeAnswer given full (placeOf b l)
-  unfolding grant
-  grant-answer true l = refl
-  grant-answer false none = refl
-  grant-answer false (some k) = refl
-
-  pub grant-after : (b : Bool) (l : Option ℕ) → grant (cond b (some (refusedPlain sessionInUse)) none) l full given new xs .after ≡ placed (placeOf b l) new xs
-  unfolding grant
-  grant-after true l = refl
-  grant-after false none = refl
-  grant-after false (some k) = refl
 
 pub called : (id : List ℕ) (timeout time : ℕ) (t : Tables) (o : Opening) (a : Answer)
     → Opens id (WaitingForReply (record { start = time; timeout = timeout })) (t .sessions) o
@@ -49,8 +35,8 @@ pub called : (id : List ℕ) (timeout time : ℕ) (t : Tables) (o : Opening) (a 
 unfolding table.step
 called id timeout time t o a w e =
     record {
-      answers = e ∙ ap (placeAnswer table.opened (refusedPlain 18)) (w .place) ∙ sym (grant-answer table.opened (refusedPlain 18) _ (t .sessions) (any (has id) (t .sessions)) (lowest (λ x. isFree (x .state)) (t .sessions)));
-      leaves = ap (λ ys. record { listeners = t .listeners; sessions = ys }) (w .sessions ∙ sym (grant-after table.opened (refusedPlain 18) _ (t .sessions) (any (has id) (t .sessions)) (lowest (λ x. isFree (x .state)) (t .sessions))));
+      answers = e ∙ opens-answer table.opened (refusedPlain 18) id _ (t .sessions) o w;
+      leaves = ap (λ ys. record { listeners = t .listeners; sessions = ys }) (opens-after table.opened (refusedPlain 18) id _ (t .sessions) o w);
     }
 
 -- ---- a call that names a session's slot
@@ -72,26 +58,22 @@ module _ (in′ : SessionState → Bool) (done : table.Answer) (f : Session → 
   named-other e i = rw (e, i, set-getD xs k freeSession) refl
 
 module _ (c : table.Call) (t : Tables) (r : Told) where
-  -- a call whose answer and tables are known
-  pub follows : (o : Outcome table.Answer Tables) → table.step c t ≡ o → meaning (r .answer) ≡ o .answer → r .tables ≡ o .after → Follows c t r
-  follows o e a l = record { answers = a ∙ ap (λ z. z .answer) (sym e); leaves = l ∙ ap (λ z. z .after) (sym e) }
-
   module _ (in′ : SessionState → Bool) (done : Answer) (f : Session → Session) (k : ℕ)
       (s : table.step c t ≡ withSessions (t .listeners) (named in′ (meaning done) f (t .sessions) k))
       (x : Session) (at : x ≡ getD (t .sessions) k freeSession) where
     pub slot-free : isFree (x .state) ≡ true → r ≡ refusing t noSlot → Follows c t r
     slot-free e q =
-        follows _ (s ∙ ap (withSessions (t .listeners)) (named-free in′ (meaning done) f (t .sessions) k (subst (λ z. isFree (z .state) ≡ true) at e)))
+        follows c t r _ (s ∙ ap (withSessions (t .listeners)) (named-free in′ (meaning done) f (t .sessions) k (subst (λ z. isFree (z .state) ≡ true) at e)))
         (ap (λ z. meaning (z .answer)) q) (ap (λ z. z .tables) q)
 
     pub slot-done : isFree (x .state) ≡ false → in′ (x .state) ≡ true → (y : Session) → y ≡ f x → r ≡ keeping t k y done → Follows c t r
     slot-done e i y w q =
-        follows _ (s ∙ ap (withSessions (t .listeners)) (named-done in′ (meaning done) f (t .sessions) k (subst (λ z. isFree (z .state) ≡ false) at e) (subst (λ z. in′ (z .state) ≡ true) at i)))
+        follows c t r _ (s ∙ ap (withSessions (t .listeners)) (named-done in′ (meaning done) f (t .sessions) k (subst (λ z. isFree (z .state) ≡ false) at e) (subst (λ z. in′ (z .state) ≡ true) at i)))
         (ap (λ z. meaning (z .answer)) q) (ap (λ z. z .tables) q ∙ ap (λ z. record { listeners = t .listeners; sessions = set (t .sessions) k z }) (w ∙ ap f at))
 
     pub slot-other : isFree (x .state) ≡ false → in′ (x .state) ≡ false → r ≡ refusing t noSession → Follows c t r
     slot-other e i q =
-        follows _ (s ∙ ap (withSessions (t .listeners)) (named-other in′ (meaning done) f (t .sessions) k (subst (λ z. isFree (z .state) ≡ false) at e) (subst (λ z. in′ (z .state) ≡ false) at i)))
+        follows c t r _ (s ∙ ap (withSessions (t .listeners)) (named-other in′ (meaning done) f (t .sessions) k (subst (λ z. isFree (z .state) ≡ false) at e) (subst (λ z. in′ (z .state) ≡ false) at i)))
         (ap (λ z. meaning (z .answer)) q) (ap (λ z. z .tables) q)
 
 pub confirm-step : (k : ℕ) (t : Tables) → table.step (table.confirm k) t ≡ withSessions (t .listeners) (named owesConfirm (meaning Confirmed) ended (t .sessions) k)

@@ -9,14 +9,14 @@ use lib.ListN.{set}
 use Rattle.refusal.specs.Refusal.{firstOf, noFreeSlot}
 use Rattle.address.specs.declared.SenderRange.{SenderRange}
 use Rattle.tables.specs.Lists.{lowest, grant}
-use Rattle.sessions.specs.declared.Answer.the-variants.{Listening}
-use Rattle.sessions.specs.declared.Tables.{Tables}
-use Rattle.sessions.specs.declared.Told.{Told}
+use Rattle.session_table.specs.declared.Answer.the-variants.{Listening}
+use Rattle.session_table.specs.declared.Tables.{Tables}
+use Rattle.session_table.specs.declared.Told.{Told}
 use Rattle.session.specs.Listener.{newListener}
-use Rattle.sessions.specs.Table as table
-use Rattle.sessions.specs.Table.{refusedPlain, listenChecks, earlier}
-use Rattle.sessions.specs.Calls.{meaning, Follows, refusing, keepingListener}
-use Rattle.sessions.proofs.Answers.{follows}
+use Rattle.session_table.specs.Table as table
+use Rattle.session_table.specs.Table.{refusedPlain, listenChecks, earlier}
+use Rattle.session_table.specs.Calls.{meaning, Follows, refusing, keepingListener}
+use Rattle.session_table.proofs.Rules.{follows}
 
 earlier-given : (n : ℕ) → (n ≡ 0 → ⊥) → earlier n ≡ some (refusedPlain n)
 earlier-given zero h = absurd (h refl)

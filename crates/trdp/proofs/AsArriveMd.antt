@@ -26,7 +26,7 @@ use denote.Triple.Clauses.{ensured, lasts}
 use Rattle.walks.proofs.ByValue.{unsignedInt}
 use Rattle.walks.proofs.Steps.{Call, both-lent, ref-lent, shr-lent, pair-is}
 use Rattle.subscriptions.proofs.Values.{arrivalBy}
-use Rattle.sessions.specs.Table.{step as mdStep, telegram as mdTelegram}
+use Rattle.session_table.specs.Table.{step as mdStep, telegram as mdTelegram}
 use Rattle.packed_calls.specs.Calls.{leftBy}
 use Rattle.packed.specs.Packed.{tablesOf as unpacked}
 use Rattle.trdp.specs.declared.MdOutcome.{MdOutcome}

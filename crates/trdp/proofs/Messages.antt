@@ -15,10 +15,10 @@ use Rattle.arrival.specs.declared.Arrival.{Arrival}
 use Rattle.statistics.specs.Statistics.{added}
 use Rattle.statistics.specs.declared.Statistics.{Statistics}
 use Rattle.telegram.specs.declared.Family.the-variants.{Md}
-use Rattle.sessions.specs.Calls as session
+use Rattle.session_table.specs.Calls as session
 use Rattle.session.specs.Session.{freeSession}
-use Rattle.sessions.specs.Table.{Call, step, telegram}
-use Rattle.sessions.specs.declared.Answer.{Answer}
+use Rattle.session_table.specs.Table.{Call, step, telegram}
+use Rattle.session_table.specs.declared.Answer.{Answer}
 use Rattle.session.specs.declared.Session.{Session}
 use Rattle.packed_calls.specs.Calls as packed
 use Rattle.packed_calls.specs.Calls.{leftBy}

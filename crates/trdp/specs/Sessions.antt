@@ -12,8 +12,8 @@ use Rattle.arrival.specs.declared.Arrival.{Arrival}
 use Rattle.statistics.specs.Statistics.{added}
 use Rattle.statistics.specs.declared.Statistics.{Statistics}
 use Rattle.session.specs.Session.{freeSession}
-use Rattle.sessions.specs.Table as table
-use Rattle.sessions.specs.Table.{Call, step, telegram, timeCheck}
+use Rattle.session_table.specs.Table as table
+use Rattle.session_table.specs.Table.{Call, step, telegram, timeCheck}
 use Rattle.session.specs.declared.Session.{Session}
 use Rattle.packed_calls.specs.Calls.{leftBy, expiredIn}
 use Rattle.packed.specs.Packed.{tablesOf, stateNumber, timingOf}

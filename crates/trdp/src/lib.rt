@@ -37,8 +37,8 @@ ghost use Rattle.subscription_table.specs.Table as table;
 ghost use Rattle.subscription_decisions.specs.Calls.{meaning};
 ghost use Rattle.subscription_decisions.specs.declared.Reading.the-variants as reading;
 ghost use Rattle.trdp.specs.Subscriptions.{outcomeOf, Follows, Receives, stateNumber, ofReading, isShown, Reads};
-ghost use Rattle.sessions.specs.Calls as session;
-ghost use Rattle.sessions.specs.Table as messages;
+ghost use Rattle.session_table.specs.Calls as session;
+ghost use Rattle.session_table.specs.Table as messages;
 ghost use Rattle.trdp.specs.Sessions as sessions;
 ghost use Rattle.trdp.specs.Wire.{noCommon, noPdHeader, noMdHeader, noMdDatagram, ofWritten, ofConverted, ofPdTaken, ofMdTaken, ofSent, Writes, SendsOut, ConvertsTo};
 
@@ -466,43 +466,43 @@ pub extern "C" fn trdp_read(t: &[Subscription], store: &[u8], k: usize) -> Shown
     of_reading(x, k)
 }
 
-fn of_told(a: sessions::Answer) -> Outcome
+fn of_told(a: session_table::Answer) -> Outcome
     ensures { λ r. ⌜ r ≡ sessions.outcomeOf (session.meaning a) ⌝ }
 {
     match a {
-        sessions::Answer::Listening(k) => Outcome {
+        session_table::Answer::Listening(k) => Outcome {
             refusal: 0,
             value: k,
         },
-        sessions::Answer::Freed => Outcome {
+        session_table::Answer::Freed => Outcome {
             refusal: 0,
             value: 0,
         },
-        sessions::Answer::Opened(k) => Outcome {
+        session_table::Answer::Opened(k) => Outcome {
             refusal: 0,
             value: k,
         },
-        sessions::Answer::Notified(l) => Outcome {
+        session_table::Answer::Notified(l) => Outcome {
             refusal: 0,
             value: l,
         },
-        sessions::Answer::Requested(_, k) => Outcome {
+        session_table::Answer::Requested(_, k) => Outcome {
             refusal: 0,
             value: k,
         },
-        sessions::Answer::Taken(_, k) => Outcome {
+        session_table::Answer::Taken(_, k) => Outcome {
             refusal: 0,
             value: k,
         },
-        sessions::Answer::Replied => Outcome {
+        session_table::Answer::Replied => Outcome {
             refusal: 0,
             value: 0,
         },
-        sessions::Answer::Confirmed => Outcome {
+        session_table::Answer::Confirmed => Outcome {
             refusal: 0,
             value: 0,
         },
-        sessions::Answer::Refused(n, _) => Outcome {
+        session_table::Answer::Refused(n, _) => Outcome {
             refusal: n,
             value: 0,
         },
@@ -603,7 +603,7 @@ pub extern "C" fn trdp_session(tables: &[u8; 1280], k: usize) -> SessionSeen
     ensures { λ r. ⌜ r ≡ sessions.sessionSeen (now (tables .entry)) k ⌝ }
 {
     if k < 16 {
-        let x = packed_calls::slots::session_at(tables, k);
+        let x = packed_slots::session_at(tables, k);
         return of_session(x);
     }
     SessionSeen {
@@ -627,19 +627,19 @@ fn told(kind: u8, number: u8, status: i32, listener: usize, slot: usize) -> MdOu
     }
 }
 
-fn of_received(a: sessions::Answer) -> MdOutcome
+fn of_received(a: session_table::Answer) -> MdOutcome
     ensures { λ r. ⌜ r ≡ sessions.mdOutcomeOf (session.meaning a) ⌝ }
 {
     match a {
-        sessions::Answer::Listening(_) => told(0, 0, 0, 0, 0),
-        sessions::Answer::Freed => told(0, 0, 0, 0, 0),
-        sessions::Answer::Opened(_) => told(0, 0, 0, 0, 0),
-        sessions::Answer::Notified(l) => told(1, 0, 0, l, 0),
-        sessions::Answer::Requested(l, k) => told(2, 0, 0, l, k),
-        sessions::Answer::Taken(status, k) => told(3, 0, status, 0, k),
-        sessions::Answer::Replied => told(0, 0, 0, 0, 0),
-        sessions::Answer::Confirmed => told(0, 0, 0, 0, 0),
-        sessions::Answer::Refused(n, status) => told(0, n, status, 0, 0),
+        session_table::Answer::Listening(_) => told(0, 0, 0, 0, 0),
+        session_table::Answer::Freed => told(0, 0, 0, 0, 0),
+        session_table::Answer::Opened(_) => told(0, 0, 0, 0, 0),
+        session_table::Answer::Notified(l) => told(1, 0, 0, l, 0),
+        session_table::Answer::Requested(l, k) => told(2, 0, 0, l, k),
+        session_table::Answer::Taken(status, k) => told(3, 0, status, 0, k),
+        session_table::Answer::Replied => told(0, 0, 0, 0, 0),
+        session_table::Answer::Confirmed => told(0, 0, 0, 0, 0),
+        session_table::Answer::Refused(n, status) => told(0, n, status, 0, 0),
     }
 }
 

@@ -39,15 +39,15 @@ use denote.Exit.{yes}
 use Rattle.walks.proofs.ByValue.{unsignedInt}
 use Rattle.walks.proofs.Steps.{both-lent, shr-lent, shr-own, frees-all}
 use Rattle.lent.proofs.AsSessionReceive as AsSessionReceive
-use Rattle.sessions.proofs.receive.Symbol as session-receive-def
-use Rattle.sessions.proofs.receive.Symbol.{name as #session-receive}
-use Rattle.sessions.proofs.receive.Met as session-receive-thm
+use Rattle.messages.proofs.receive.Symbol as session-receive-def
+use Rattle.messages.proofs.receive.Symbol.{name as #session-receive}
+use Rattle.messages.proofs.receive.Met as session-receive-thm
 use Rattle.arrival.specs.declared.Arrival.{Arrival}
 use Rattle.statistics.specs.declared.Statistics.{Statistics}
 use Rattle.statistics.proofs.Values.{statisticsBy}
-use Rattle.sessions.specs.Arriving as message
-use Rattle.sessions.specs.declared.Tables.{Tables as SessionTables}
-use Rattle.sessions.proofs.Values.{tablesBy, toldBy}
+use Rattle.messages.specs.Arriving as message
+use Rattle.session_table.specs.declared.Tables.{Tables as SessionTables}
+use Rattle.messages.proofs.Values.{tablesBy, toldBy}
 use Rattle.subscriptions.proofs.Values.{arrivalBy}
 use Rattle.lent.specs.Lent.{Receives}
 use Rattle.lent.specs.declared.Counted.{Counted}
@@ -58,9 +58,9 @@ use Rattle.arrival.proofs.Arrival.Laws as P′
 use Rattle.statistics.proofs.Statistics as S
 use Rattle.statistics.proofs.Statistics.Laws as S′
 use Rattle.lent.proofs.Called as C
-use Rattle.sessions.proofs.Tables as T
-use Rattle.sessions.proofs.Tables.Laws as T′
-use Rattle.sessions.proofs.Told.Laws as D′
+use Rattle.session_table.proofs.Tables as T
+use Rattle.session_table.proofs.Tables.Laws as T′
+use Rattle.session_table.proofs.Told.Laws as D′
 use Rattle.lent.proofs.Counted.Laws as U′
 use Rattle.lent.proofs.receive_counted.Key.{name as #f}
 use Rattle.lent.proofs.receive_counted as f
@@ -162,4 +162,4 @@ receive-counted-spec 𝓤 H 𝓜 𝓖 𝓡 =
     entered 𝓤 H (tripleOf 𝓤 H (𝓖 .A) f.signature (f.spec 𝓤 H (𝓖 .A) (𝓜 .mem) (𝓡 .run)))
     (tables 𝓤 H 𝓜 𝓡 code.env .C) (tables 𝓤 H 𝓜 𝓡 code.env .Λ) #f code.function (code.unfolded 𝓤 H 𝓜 𝓡)
     (meets 𝓤 H (𝓖 .A) (givenOf 𝓤 H 𝓜 𝓖) (𝓜 .mem) (𝓡 .run) (tablesOf 𝓤 H 𝓜 (tables 𝓤 H 𝓜 𝓡 code.env))
-    (cited 𝓤 H (AsSessionReceive.G 𝓤 H (𝓖 .A) (givenOf 𝓤 H 𝓜 𝓖) (𝓜 .mem) (𝓡 .run)) 𝓜 𝓡 code.env #session-receive session-receive-def.routine code.calls-sessions·receive (session-receive-thm.met 𝓤 H 𝓜 𝓖 𝓡)))
+    (cited 𝓤 H (AsSessionReceive.G 𝓤 H (𝓖 .A) (givenOf 𝓤 H 𝓜 𝓖) (𝓜 .mem) (𝓡 .run)) 𝓜 𝓡 code.env #session-receive session-receive-def.routine code.calls-messages·receive (session-receive-thm.met 𝓤 H 𝓜 𝓖 𝓡)))

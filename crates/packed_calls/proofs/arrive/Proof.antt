@@ -5,8 +5,9 @@ use mir.Val.{ofZ, toZ}
 use mir.Syntax.{w32}
 use Rattle.refusal.specs.Refusal.{topography, uri}
 use Rattle.md.specs.Md.{refusalOf}
-use Rattle.sessions.proofs.Arrived.{not-taken, not-local, not-sound, refused-follows, passed-follows}
-use Rattle.sessions.specs.Table as table
+use Rattle.session_table.proofs.Judged.{not-taken, not-local, not-sound, refused-follows}
+use Rattle.messages.proofs.Arrived.{passed-follows}
+use Rattle.session_table.specs.Table as table
 use Rattle.packed.specs.Packed.{tablesOf}
 use Rattle.packed_calls.proofs.Left.{refused, gave}
 use borrow.Author.Needs.{needs}

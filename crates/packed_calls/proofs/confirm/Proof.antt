@@ -3,11 +3,11 @@ use mathlib.Core.Path.{refl, sym, _∙_}
 use Rattle.refusal.specs.Refusal.{noSlot, noSession}
 use Rattle.sessions.proofs.Answers.{slot-free, slot-done, slot-other, confirm-step}
 use Rattle.session.specs.Session.{owesConfirm}
-use Rattle.sessions.specs.Table as table
-use Rattle.sessions.specs.declared.Answer.the-variants.{Confirmed}
+use Rattle.session_table.specs.Table as table
+use Rattle.session_table.specs.declared.Answer.the-variants.{Confirmed}
 use Rattle.packed.specs.Packed.{tablesOf}
 use Rattle.packed_calls.proofs.Left.{refused, follows, keeps-session, wrote-session}
-use Rattle.packed_calls.proofs.Places.{PutsSession}
+use Rattle.packed_slots.specs.Slots.{PutsSession}
 use borrow.Author.Needs.{needs}
 use Rattle.packed_calls.proofs.confirm.Statement.{statement}
 use Rattle.packed_calls.proofs.confirm.Tie as tie
@@ -42,7 +42,7 @@ returns-2 : tie.Need-returns-2
 returns-2 c =
     let a = c .before .before .before .before .before .before .before .before .before .before .before .before .args in
     let y = c .before .before .before .before .no-session .result in
-    let p : PutsSession (a .k) y (a .octets .now) _ = record { written = c .before .before .put-session .ensures .0; means = c .before .before .put-session .ensures .1 } in
+    let p : PutsSession (a .k) y (a .octets .now) _ = c .before .before .put-session .ensures in
     follows (a .octets .now) _ Confirmed (table.confirm (a .k)) (slot-done (table.confirm (a .k)) (tablesOf (a .octets .now)) _ owesConfirm Confirmed table.ended (a .k) (confirm-step (a .k) (tablesOf (a .octets .now))) (c .before .before .before .before .before .before .before .before .before .session-at .result) (c .before .before .before .before .before .before .before .before .before .session-at .ensures) (sym (c .before .before .before .before .before .before .before .before .is-free .ensures) ∙ c .before .before .before .before .before .before .before .if1 .left) (sym (c .before .before .before .before .before .before .owes-confirm .ensures) ∙ c .before .before .before .before .before .if2 .taken) y (c .before .before .before .before .no-session .ensures) (keeps-session (a .k) (a .octets .now) _ y Confirmed p)) (wrote-session (a .k) (a .octets .now) _ y p)
 
 same-length-3 : tie.Need-same-length-3

@@ -4,14 +4,13 @@ use mir.Facts.{toZ-ofZ}
 use mir.Val.{ofZ, toZ}
 use mir.Syntax.{w32}
 use Rattle.tables.specs.Lists.{lowest}
-use Rattle.sessions.proofs.Arrived.{untaken, takes}
-use Rattle.session.specs.Session.{waitsOf}
-use Rattle.session.specs.Session.{canTake}
-use Rattle.sessions.specs.Table.{takenAt, ended}
+use Rattle.messages.proofs.Arrived.{untaken, takes}
+use Rattle.session.specs.Session.{waitsOf, canTake}
+use Rattle.session_table.specs.Table.{takenAt, ended}
 use Rattle.session.specs.declared.Session.{Session}
 use Rattle.packed.specs.Packed.{tablesOf}
 use Rattle.packed_calls.proofs.Left.{gives, keeps-session, wrote-session}
-use Rattle.packed_calls.proofs.Places.{PutsSession}
+use Rattle.packed_slots.specs.Slots.{PutsSession}
 use borrow.Author.Needs.{needs}
 use Rattle.packed_calls.proofs.end_session.Statement.{statement}
 use Rattle.packed_calls.proofs.end_session.Tie as tie
@@ -47,7 +46,7 @@ returns-2 c =
     let a = c .before .before .before .before .before .before .before .before .before .before .before .before .before .args in
     let y : Session = (c .before .before .before .before .before .no-session .result) in
     let k = c .before .before .before .before .before .before .before .f .given .0 .0 in
-    let p : PutsSession k y (a .octets .now) _ = record { written = c .before .before .before .put-session .ensures .0; means = c .before .before .before .put-session .ensures .1 } in
+    let p : PutsSession k y (a .octets .now) _ = c .before .before .before .put-session .ensures in
     gives (a .octets .now) _ _ (takenAt (lowest (canTake (waitsOf (a .w)) (a .m .id)) (tablesOf (a .octets .now) .sessions)) ended (a .m .status) (tablesOf (a .octets .now) .sessions)) (takes (tablesOf (a .octets .now)) (lowest (canTake (waitsOf (a .w)) (a .m .id)) (tablesOf (a .octets .now) .sessions)) ended (a .m .status) _ (sym (c .before .before .before .before .before .before .before .before .before .find-session .ensures) ∙ c .before .before .before .before .before .before .before .f .given .1) _ y (c .before .before .before .before .before .no-session .ensures) (toZ w32 (ofZ w32 (a .m .status))) (toZ-ofZ (search needs)) (keeps-session k (a .octets .now) _ y _ p)) (λ c. wrote-session k (a .octets .now) _ y p)
 
 pub end-session-spec : {M : Type 1} → statement M

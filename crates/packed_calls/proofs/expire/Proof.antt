@@ -3,7 +3,7 @@ use mathlib.Core.Path.{sym, ap, _∙_}
 use Rattle.session.specs.Session.{isUp}
 use Rattle.session.specs.declared.Session.{Session}
 use Rattle.packed_calls.proofs.Left.{expires-up, expires-not}
-use Rattle.packed_calls.proofs.Places.{PutsSession}
+use Rattle.packed_slots.specs.Slots.{PutsSession}
 use borrow.Author.Needs.{needs}
 use Rattle.packed_calls.proofs.expire.Statement.{statement}
 use Rattle.packed_calls.proofs.expire.Tie as tie
@@ -27,7 +27,7 @@ returns : tie.Need-returns
 returns c =
     let a = c .before .before .before .before .before .before .before .before .before .before .args in
     let y = c .before .before .before .before .no-session .result in
-    let p : PutsSession (a .k) y (a .octets .now) _ = record { written = c .before .before .put-session .ensures .0; means = c .before .before .put-session .ensures .1 } in
+    let p : PutsSession (a .k) y (a .octets .now) _ = c .before .before .put-session .ensures in
     expires-up (a .time) (a .k) (a .octets .now) _ y (ap (λ (x : Session). isUp (a .time) (x .state)) (sym (c .before .before .before .before .before .before .before .session-at .ensures)) ∙ sym (c .before .before .before .before .before .before .is-up .ensures) ∙ c .before .before .before .before .before .if1 .taken) (c .before .before .before .before .no-session .ensures) p
 
 same-length-2 : tie.Need-same-length-2

@@ -1,6 +1,5 @@
 -- The types are asked for in the order of the definition.
-use borrow.Author.Tests.{eq-eqb, ne-eqb}
-use Rattle.sessions.specs.Table.{kindOf}
+use Rattle.session_table.proofs.ByType.{kind-mn, kind-mr, kind-mp, kind-mq, kind-mc, kind-me}
 use borrow.Author.Needs.{needs}
 use Rattle.packed_calls.proofs.follow.Statement.{statement}
 use Rattle.packed_calls.proofs.follow.Tie as tie
@@ -12,9 +11,8 @@ same-length : tie.Need-same-length
 same-length c = search needs
 
 returns : tie.Need-returns
-unfolding kindOf
 returns c =
-    rw (eq-eqb _ _ (c .before .before .if1 .taken)) (c .notify .ensures)
+    rw (kind-mn _ (c .before .before .if1 .taken)) (c .notify .ensures)
 
 request-requires : tie.Need-request-requires
 request-requires c κs = search needs
@@ -23,9 +21,8 @@ same-length-2 : tie.Need-same-length-2
 same-length-2 c = search needs
 
 returns-2 : tie.Need-returns-2
-unfolding kindOf
 returns-2 c =
-    rw (ne-eqb _ _ (c .before .before .before .before .before .before .if1 .left), eq-eqb _ _ (c .before .before .before .before .if2 .taken)) (c .before .before .request .ensures)
+    rw (kind-mr _ (c .before .before .before .before .before .before .if1 .left) (c .before .before .before .before .if2 .taken)) (c .before .before .request .ensures)
 
 end-session-requires : tie.Need-end-session-requires
 end-session-requires c κs = search needs
@@ -34,9 +31,8 @@ same-length-3 : tie.Need-same-length-3
 same-length-3 c = search needs
 
 returns-3 : tie.Need-returns-3
-unfolding kindOf
 returns-3 c =
-    rw (ne-eqb _ _ (c .before .before .before .before .before .before .before .before .if1 .left), ne-eqb _ _ (c .before .before .before .before .before .before .if2 .left), eq-eqb _ _ (c .before .before .before .before .if3 .taken)) (c .before .before .end-session .ensures)
+    rw (kind-mp _ (c .before .before .before .before .before .before .before .before .if1 .left) (c .before .before .before .before .before .before .if2 .left) (c .before .before .before .before .if3 .taken)) (c .before .before .end-session .ensures)
 
 owe-confirm-requires : tie.Need-owe-confirm-requires
 owe-confirm-requires c κs = search needs
@@ -45,9 +41,8 @@ same-length-4 : tie.Need-same-length-4
 same-length-4 c = search needs
 
 returns-4 : tie.Need-returns-4
-unfolding kindOf
 returns-4 c =
-    rw (ne-eqb _ _ (c .before .before .before .before .before .before .before .before .before .before .if1 .left), ne-eqb _ _ (c .before .before .before .before .before .before .before .before .if2 .left), ne-eqb _ _ (c .before .before .before .before .before .before .if3 .left), eq-eqb _ _ (c .before .before .before .before .if4 .taken)) (c .before .before .owe-confirm .ensures)
+    rw (kind-mq _ (c .before .before .before .before .before .before .before .before .before .before .if1 .left) (c .before .before .before .before .before .before .before .before .if2 .left) (c .before .before .before .before .before .before .if3 .left) (c .before .before .before .before .if4 .taken)) (c .before .before .owe-confirm .ensures)
 
 end-session-requires-2 : tie.Need-end-session-requires-2
 end-session-requires-2 c κs = search needs
@@ -56,9 +51,8 @@ same-length-5 : tie.Need-same-length-5
 same-length-5 c = search needs
 
 returns-5 : tie.Need-returns-5
-unfolding kindOf
 returns-5 c =
-    rw (ne-eqb _ _ (c .before .before .before .before .before .before .before .before .before .before .before .before .if1 .left), ne-eqb _ _ (c .before .before .before .before .before .before .before .before .before .before .if2 .left), ne-eqb _ _ (c .before .before .before .before .before .before .before .before .if3 .left), ne-eqb _ _ (c .before .before .before .before .before .before .if4 .left), eq-eqb _ _ (c .before .before .before .before .if5 .taken)) (c .before .before .end-session2 .ensures)
+    rw (kind-mc _ (c .before .before .before .before .before .before .before .before .before .before .before .before .if1 .left) (c .before .before .before .before .before .before .before .before .before .before .if2 .left) (c .before .before .before .before .before .before .before .before .if3 .left) (c .before .before .before .before .before .before .if4 .left) (c .before .before .before .before .if5 .taken)) (c .before .before .end-session2 .ensures)
 
 end-session-requires-3 : tie.Need-end-session-requires-3
 end-session-requires-3 c κs = search needs
@@ -67,9 +61,8 @@ same-length-6 : tie.Need-same-length-6
 same-length-6 c = search needs
 
 returns-6 : tie.Need-returns-6
-unfolding kindOf
 returns-6 c =
-    rw (ne-eqb _ _ (c .before .before .before .before .before .before .before .before .before .before .before .before .if1 .left), ne-eqb _ _ (c .before .before .before .before .before .before .before .before .before .before .if2 .left), ne-eqb _ _ (c .before .before .before .before .before .before .before .before .if3 .left), ne-eqb _ _ (c .before .before .before .before .before .before .if4 .left), ne-eqb _ _ (c .before .before .before .before .if5 .left)) (c .before .before .end-session3 .ensures)
+    rw (kind-me _ (c .before .before .before .before .before .before .before .before .before .before .before .before .if1 .left) (c .before .before .before .before .before .before .before .before .before .before .if2 .left) (c .before .before .before .before .before .before .before .before .if3 .left) (c .before .before .before .before .before .before .if4 .left) (c .before .before .before .before .if5 .left)) (c .before .before .end-session3 .ensures)
 
 pub follow-spec : {M : Type 1} → statement M
 follow-spec =

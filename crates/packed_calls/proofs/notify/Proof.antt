@@ -1,8 +1,8 @@
 -- The lowest listener that hears the telegram was found, or none.
 use mathlib.Core.Path.{refl, sym, _∙_}
-use Rattle.sessions.proofs.Arrived.{unheard, heard}
-use Rattle.sessions.specs.Arriving.{heardBy}
-use Rattle.sessions.specs.Table.{hearing, notifying}
+use Rattle.messages.proofs.Arrived.{unheard, heard}
+use Rattle.messages.specs.Arriving.{heardBy}
+use Rattle.session_table.specs.Table.{hearing, notifying}
 use Rattle.packed.specs.Packed.{tablesOf}
 use Rattle.packed_calls.proofs.Left.{gives}
 use borrow.Author.Needs.{needs}
@@ -21,7 +21,7 @@ enum-told c = search needs
 returns : tie.Need-returns
 returns c =
     let a = c .before .before .before .before .before .args in
-    gives (a .octets .now) (a .octets .now) _ (notifying (hearing (heardBy (a .m) (a .destination .now)) (tablesOf (a .octets .now) .listeners)) (tablesOf (a .octets .now) .sessions)) (unheard (tablesOf (a .octets .now)) (hearing (heardBy (a .m) (a .destination .now)) (tablesOf (a .octets .now) .listeners)) (sym (c .before .before .find-listener .ensures) ∙ c .enum-told .given .1) _ refl) (λ c. refl)
+    gives (a .octets .now) (a .octets .now) _ (notifying (hearing (heardBy (a .m) (a .destination .now)) (tablesOf (a .octets .now) .listeners)) (tablesOf (a .octets .now) .sessions)) (unheard (tablesOf (a .octets .now)) (hearing (heardBy (a .m) (a .destination .now)) (tablesOf (a .octets .now) .listeners)) (sym (c .before .before .find-listener .ensures) ∙ c .enum-told .given .1)) (λ c. refl)
 
 returns-2 : tie.Need-returns-2
 returns-2 c =

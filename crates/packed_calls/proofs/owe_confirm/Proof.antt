@@ -4,16 +4,15 @@ use mir.Facts.{toZ-ofZ}
 use mir.Val.{ofZ, toZ}
 use mir.Syntax.{w32}
 use Rattle.tables.specs.Lists.{lowest}
-use Rattle.sessions.proofs.Arrived.{untaken, takes}
-use Rattle.sessions.specs.Arriving.{byIdentifier}
-use Rattle.session.specs.Session.{waitsForReply}
+use Rattle.messages.proofs.Arrived.{untaken, takes}
+use Rattle.messages.specs.Arriving.{byIdentifier}
+use Rattle.session.specs.Session.{waitsForReply, canTake}
 use Rattle.session.specs.declared.SessionState.the-variants.{OwingConfirm}
-use Rattle.session.specs.Session.{canTake}
-use Rattle.sessions.specs.Table.{takenAt, owing}
+use Rattle.session_table.specs.Table.{takenAt, owing}
 use Rattle.session.specs.declared.Session.{Session}
 use Rattle.packed.specs.Packed.{tablesOf}
 use Rattle.packed_calls.proofs.Left.{gives, keeps-session, wrote-session}
-use Rattle.packed_calls.proofs.Places.{PutsSession}
+use Rattle.packed_slots.specs.Slots.{PutsSession}
 use borrow.Author.Needs.{needs}
 use Rattle.packed_calls.proofs.owe_confirm.Statement.{statement}
 use Rattle.packed_calls.proofs.owe_confirm.Tie as tie
@@ -49,7 +48,7 @@ returns-2 c =
     let a = c .before .before .before .before .before .before .before .before .before .before .before .before .before .before .before .args in
     let y : Session = (record { id = c .before .before .before .before .before .before .session-at .result .id; state = OwingConfirm (record { start = a .m .time; timeout = a .m .timeout }) }) in
     let k = c .before .before .before .before .before .before .before .before .before .f .given .0 .0 in
-    let p : PutsSession k y (a .octets .now) _ = record { written = c .before .before .before .put-session .ensures .0; means = c .before .before .before .put-session .ensures .1 } in
+    let p : PutsSession k y (a .octets .now) _ = c .before .before .before .put-session .ensures in
     gives (a .octets .now) _ _ (takenAt (lowest (canTake waitsForReply (a .m .id)) (tablesOf (a .octets .now) .sessions)) (owing (byIdentifier (a .m))) (a .m .status) (tablesOf (a .octets .now) .sessions)) (takes (tablesOf (a .octets .now)) (lowest (canTake waitsForReply (a .m .id)) (tablesOf (a .octets .now) .sessions)) (owing (byIdentifier (a .m))) (a .m .status) _ (sym (c .before .before .before .before .before .before .before .before .before .before .before .find-session .ensures) ∙ c .before .before .before .before .before .before .before .before .before .f .given .1) _ y (ap (owing (byIdentifier (a .m))) (c .before .before .before .before .before .before .session-at .ensures)) (toZ w32 (ofZ w32 (a .m .status))) (toZ-ofZ (search needs)) (keeps-session k (a .octets .now) _ y _ p)) (λ c. wrote-session k (a .octets .now) _ y p)
 
 pub owe-confirm-spec : {M : Type 1} → statement M

@@ -3,11 +3,11 @@ use mathlib.Core.Path.{refl, sym, _∙_}
 use Rattle.refusal.specs.Refusal.{msgType, noSlot, noSession}
 use Rattle.sessions.proofs.Answers.{slot-free, slot-done, slot-other, reply-step, reply-none}
 use Rattle.session.specs.Session.{isWithUser}
-use Rattle.sessions.specs.Table as table
-use Rattle.sessions.specs.declared.Answer.the-variants.{Replied}
+use Rattle.session_table.specs.Table as table
+use Rattle.session_table.specs.declared.Answer.the-variants.{Replied}
 use Rattle.packed.specs.Packed.{tablesOf}
 use Rattle.packed_calls.proofs.Left.{refused, follows, keeps-session, wrote-session}
-use Rattle.packed_calls.proofs.Places.{PutsSession}
+use Rattle.packed_slots.specs.Slots.{PutsSession}
 use borrow.Author.Needs.{needs}
 use Rattle.packed_calls.proofs.reply.Statement.{statement}
 use Rattle.packed_calls.proofs.reply.Tie as tie
@@ -45,7 +45,7 @@ returns-2 : tie.Need-returns-2
 returns-2 c =
     let a = c .before .before .before .before .before .before .before .before .before .before .before .before .before .before .args in
     let y = c .before .before .before .before .answer-as .result in
-    let p : PutsSession (a .k) y (a .octets .now) _ = record { written = c .before .before .put-session .ensures .0; means = c .before .before .put-session .ensures .1 } in
+    let p : PutsSession (a .k) y (a .octets .now) _ = c .before .before .put-session .ensures in
     follows (a .octets .now) _ Replied (table.reply (a .k) (a .msg-type) (a .timeout) (a .time)) (slot-done (table.reply (a .k) (a .msg-type) (a .timeout) (a .time)) (tablesOf (a .octets .now)) _ isWithUser Replied (table.answered (a .msg-type) (a .timeout) (a .time)) (a .k) (reply-step (a .k) (a .msg-type) (a .timeout) (a .time) (tablesOf (a .octets .now)) (sym (c .before .before .before .before .before .before .before .before .before .before .before .before .is-reply .ensures) ∙ c .before .before .before .before .before .before .before .before .before .before .before .if1 .taken)) (c .before .before .before .before .before .before .before .before .before .session-at .result) (c .before .before .before .before .before .before .before .before .before .session-at .ensures) (sym (c .before .before .before .before .before .before .before .before .is-free .ensures) ∙ c .before .before .before .before .before .before .before .if2 .left) (sym (c .before .before .before .before .before .before .is-with-user .ensures) ∙ c .before .before .before .before .before .if3 .taken) y (c .before .before .before .before .answer-as .ensures) (keeps-session (a .k) (a .octets .now) _ y Replied p)) (wrote-session (a .k) (a .octets .now) _ y p)
 
 same-length-3 : tie.Need-same-length-3

@@ -1,8 +1,8 @@
 -- A session is opened where a listener hears the request.
 use mathlib.Core.Path.{refl, sym, _∙_}
-use Rattle.sessions.proofs.Arrived.{unrequested}
-use Rattle.sessions.specs.Arriving.{heardBy}
-use Rattle.sessions.specs.Table.{hearing, requesting}
+use Rattle.messages.proofs.Arrived.{unrequested}
+use Rattle.messages.specs.Arriving.{heardBy}
+use Rattle.session_table.specs.Table.{hearing, requesting}
 use Rattle.packed.specs.Packed.{tablesOf}
 use Rattle.packed_calls.proofs.Left.{gives, requests}
 use borrow.Author.Needs.{needs}

@@ -2,11 +2,11 @@
 use mathlib.Core.Path.{refl}
 use Rattle.refusal.specs.Refusal.{noSlot}
 use Rattle.sessions.proofs.Answers.{unlisten-done, unlisten-none}
-use Rattle.sessions.specs.Table as table
-use Rattle.sessions.specs.declared.Answer.the-variants.{Freed}
+use Rattle.session_table.specs.Table as table
+use Rattle.session_table.specs.declared.Answer.the-variants.{Freed}
 use Rattle.packed.specs.Packed.{tablesOf}
 use Rattle.packed_calls.proofs.Left.{refused, follows, keeps-listener, wrote-listener}
-use Rattle.packed_calls.proofs.Places.{PutsListener}
+use Rattle.packed_slots.specs.Slots.{PutsListener}
 use borrow.Author.Needs.{needs}
 use Rattle.packed_calls.proofs.unlisten.Statement.{statement}
 use Rattle.packed_calls.proofs.unlisten.Tie as tie
@@ -27,7 +27,7 @@ returns : tie.Need-returns
 returns c =
     let a = c .before .before .before .before .before .before .before .before .before .args in
     let y = c .before .before .before .before .no-listener .result in
-    let p : PutsListener (a .k) y (a .octets .now) _ = record { written = c .before .before .put-listener .ensures .0; means = c .before .before .put-listener .ensures .1 } in
+    let p : PutsListener (a .k) y (a .octets .now) _ = c .before .before .put-listener .ensures in
     follows (a .octets .now) _ Freed (table.unlisten (a .k)) (unlisten-done (a .k) (tablesOf (a .octets .now)) _ (c .before .before .before .before .before .before .listener-at .result) (c .before .before .before .before .before .before .listener-at .ensures) (c .before .before .before .before .before .if1 .taken) y (c .before .before .before .before .no-listener .ensures) (keeps-listener (a .k) (a .octets .now) _ y Freed p)) (wrote-listener (a .k) (a .octets .now) _ y p)
 
 same-length-2 : tie.Need-same-length-2

@@ -4,7 +4,7 @@ use mathlib.Core.Path.{_≡_, refl, sym, _∙_}
 use mathlib.Core.Bool.{true, false}
 use Rattle.line.specs.Line.{readTo, ends}
 use Rattle.line.proofs.Fields.{ended, first-number, unended}
-use Rattle.sessions.specs.Table.{timeCheck, codes}
+use Rattle.session_table.specs.Table.{timeCheck, codes}
 use Rattle.scenario_md.specs.Lines.{checkAsked}
 use Rattle.scenario_md.proofs.Served.{asks, served, unserved}
 use Rattle.scenario_md.proofs.check.Statement.{statement}

@@ -3,7 +3,7 @@ use borrow.Author.Needs.{needs}
 use mathlib.Core.Path.{_∙_}
 use mathlib.Core.List.{List}
 use Prim.Native.Nat.{ℕ}
-use Rattle.sessions.specs.Table.{telegram}
+use Rattle.session_table.specs.Table.{telegram}
 use Rattle.line.specs.Line.{readTo, eight}
 use Rattle.line.proofs.Fields.{first-number, number-read}
 use Rattle.line.proofs.Said.{said-octets, unsaid}

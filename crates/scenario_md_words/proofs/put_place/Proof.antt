@@ -1,6 +1,6 @@
 -- The slot is there, or not.
 use native.Mathlib.Omega.{arith}
-use Rattle.sessions.proofs.Arrays.{length-mapped}
+use Rattle.session_table.proofs.Arrays.{length-mapped}
 use Rattle.scenario_md_words.proofs.Shown.{slot-put, no-slot-put}
 use borrow.Author.Needs.{needs}
 use Rattle.scenario_md_words.proofs.put_place.Statement.{statement}

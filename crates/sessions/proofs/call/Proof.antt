@@ -1,3 +1,4 @@
+-- The opening answers and leaves what the rule says.
 use borrow.Author.Needs.{needs}
 use Rattle.sessions.proofs.Answers.{called}
 use Rattle.sessions.proofs.call.Statement.{statement}

@@ -1,7 +1,8 @@
+-- The session of the slot decides: free, owing a confirm, or in another state.
 use mathlib.Core.Path.{sym, _∙_}
 use borrow.Author.Needs.{needs}
-use Rattle.sessions.specs.declared.Answer.the-variants.{Confirmed}
-use Rattle.sessions.specs.Table as table
+use Rattle.session_table.specs.declared.Answer.the-variants.{Confirmed}
+use Rattle.session_table.specs.Table as table
 use Rattle.session.specs.Session.{owesConfirm}
 use Rattle.sessions.proofs.Answers.{slot-free, slot-done, slot-other, confirm-step}
 use Rattle.sessions.proofs.confirm.Statement.{statement}

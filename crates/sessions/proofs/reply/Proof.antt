@@ -1,7 +1,8 @@
+-- The type is asked first; then the session of the slot decides: free, with the user, or in another state.
 use mathlib.Core.Path.{sym, _∙_}
 use borrow.Author.Needs.{needs}
-use Rattle.sessions.specs.declared.Answer.the-variants.{Replied}
-use Rattle.sessions.specs.Table as table
+use Rattle.session_table.specs.declared.Answer.the-variants.{Replied}
+use Rattle.session_table.specs.Table as table
 use Rattle.session.specs.Session.{isWithUser}
 use Rattle.sessions.proofs.Answers.{slot-free, slot-done, slot-other, reply-step, reply-none}
 use Rattle.sessions.proofs.reply.Statement.{statement}

@@ -11,8 +11,8 @@ use lib.IntN.{ℤ, pos}
 use Rattle.session.specs.declared.Session.{Session}
 use Rattle.session.specs.Session.{codeOf, expired}
 use Rattle.sessions.proofs.Answers.{checked}
-use Rattle.sessions.proofs.Arrays.{length-mapped, blankSession}
-use Rattle.sessions.proofs.Filled.{filled, filled-more, filled-next, filled-all}
+use Rattle.session_table.proofs.Arrays.{length-mapped, blankSession}
+use Rattle.session_table.proofs.Filled.{filled, filled-more, filled-next, filled-all}
 use Rattle.sessions.proofs.time_check.Statement.{statement}
 use Rattle.sessions.proofs.time_check.Tie as tie
 

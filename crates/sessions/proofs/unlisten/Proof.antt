@@ -1,3 +1,4 @@
+-- The listener of the slot decides: in use, or free.
 use borrow.Author.Needs.{needs}
 use Rattle.sessions.proofs.Answers.{unlisten-done, unlisten-none}
 use Rattle.sessions.proofs.unlisten.Statement.{statement}

@@ -3,7 +3,7 @@ use mathlib.Core.Path.{_≡_, _∙_}
 use mathlib.Core.List.{List}
 use Prim.Native.Nat.{ℕ}
 use lib.ListN.{length}
-use Rattle.sessions.specs.Table as table
+use Rattle.session_table.specs.Table as table
 use Rattle.trdp.proofs.Messages.{follows-as, whole}
 use borrow.Author.Needs.{needs}
 use Rattle.trdp.proofs.trdp_listen.Statement.{statement}

@@ -1,0 +1,23 @@
+-- Over every list of calls the statistics are those of the history of its telegrams.
+-- Assumes nothing.
+use mathlib.Core.Path.{_≡_, refl, sym, _∙_}
+use mathlib.Core.List.{List, [], _∷_}
+use Rattle.statistics.specs.declared.Statistics.{Statistics}
+use Rattle.statistics.specs.Statistics.{Arrived, afterAll}
+use Rattle.session_table.specs.declared.Tables.{Tables}
+use Rattle.session_table.specs.Table.{Call, listen, unlisten, calling, telegram, reply, confirm, timeCheck, Answer, step}
+use Rattle.messages.specs.History.{statisticsAfter, statisticsOver, entered, history}
+
+one-call : (c : Call) (x : Answer) (more : List Arrived) (s : Statistics) → afterAll (entered c x more) s ≡ afterAll more (statisticsAfter c x s)
+one-call (listen comId senders u) x more s = refl
+one-call (unlisten k) x more s = refl
+one-call (calling id timeout time) x more s = refl
+one-call (telegram a d) x more s = refl
+one-call (reply k type timeout time) x more s = refl
+one-call (confirm k) x more s = refl
+one-call (timeCheck time) x more s = refl
+
+pub md-statistics : (calls : List Call) (t : Tables) (s : Statistics) → statisticsOver calls t s ≡ afterAll (history calls t) s
+md-statistics [] t s = refl
+md-statistics (c ∷ calls) t s =
+    md-statistics calls (step c t .after) (statisticsAfter c (step c t .answer) s) ∙ sym (one-call c (step c t .answer) (history calls (step c t .after)) s)

@@ -1,0 +1,32 @@
+-- One listener or one session of the 1280 octets that a host lends: written at its place, and opened.
+use Prim.Native.Nat.{ℕ}
+use mathlib.Core.Path.{_≡_}
+use mathlib.Core.List.{List}
+use lib.ListN.{set}
+use Rattle.session.specs.declared.Listener.{Listener}
+use Rattle.session.specs.declared.Session.{Session}
+use Rattle.session.specs.declared.SessionState.{SessionState}
+use Rattle.session_table.specs.Calls.{Opens}
+use Rattle.session_table.specs.declared.Place.{Place}
+use Rattle.session_table.specs.declared.Place.the-variants.{Slot, InUse, Full}
+use Rattle.packed.specs.Packed.{tablesOf, putListener, putSession}
+
+-- a record in a slot: the octets that it leaves, and what they mean
+pub record PutsSession (k : ℕ) (x : Session) (s s′ : List ℕ) : Type 0 where
+  pub written : s′ ≡ putSession k x s
+  pub means : tablesOf s′ ≡ record { listeners = tablesOf s .listeners; sessions = set (tablesOf s .sessions) k x }
+
+pub record PutsListener (k : ℕ) (l : Listener) (s s′ : List ℕ) : Type 0 where
+  pub written : s′ ≡ putListener k l s
+  pub means : tablesOf s′ ≡ record { listeners = set (tablesOf s .listeners) k l; sessions = tablesOf s .sessions }
+
+-- a session opened in lent octets, and written at its place
+abbrev pub placedIn : Place → Session → List ℕ → List ℕ
+placedIn InUse x octets = octets
+placedIn Full x octets = octets
+placedIn (Slot k) x octets = putSession k x octets
+
+pub record Places (id : List ℕ) (state : SessionState) (octets : List ℕ) (p : Place) (octets′ : List ℕ) : Type 0 where
+  pub opens : Opens id state (tablesOf octets .sessions) (record { sessions = tablesOf octets′ .sessions; place = p })
+  pub listeners : tablesOf octets′ .listeners ≡ tablesOf octets .listeners
+  pub writes : octets′ ≡ placedIn p (record { id = id; state = state }) octets

@@ -1,4 +1,0 @@
-pub mod Table
-pub mod Calls
-pub mod Arriving
-pub mod History
