@@ -35,7 +35,6 @@ use Rattle.session_table.specs.declared.Told.{Told}
 use Rattle.sessions.proofs.Answers.{called, checked}
 use Rattle.messages.proofs.Arrived.{requests as requested}
 use Rattle.session_table.proofs.Filled.{filled, filled-more, filled-next, filled-all}
-use Rattle.session_table.proofs.Places.{full}
 use Rattle.packed.specs.Packed.{tablesOf, putListener, putSession}
 use Rattle.packed_calls.specs.Calls.{withListener, withSession, leftBy, told, Follows, Gives, expiredAt, expiredIn, Expires, Checks}
 use Rattle.packed_slots.specs.Slots.{PutsSession, PutsListener, Places, placedIn}
