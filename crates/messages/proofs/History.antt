@@ -1,9 +1,10 @@
 -- Over every list of calls the statistics are those of the history of its telegrams.
 -- Assumes nothing.
-use mathlib.Core.Path.{_≡_, refl, sym, _∙_}
-use mathlib.Core.List.{List, [], _∷_}
+use mathlib.Core.Path.{_≡_, refl}
+use mathlib.Core.List.{List}
 use Rattle.statistics.specs.declared.Statistics.{Statistics}
 use Rattle.statistics.specs.Statistics.{Arrived, afterAll}
+use Rattle.statistics.proofs.History.{of-history}
 use Rattle.session_table.specs.declared.Tables.{Tables}
 use Rattle.session_table.specs.Table.{Call, listen, unlisten, calling, telegram, reply, confirm, timeCheck, Answer, step}
 use Rattle.messages.specs.History.{statisticsAfter, statisticsOver, entered, history}
@@ -18,6 +19,13 @@ one-call (confirm k) x more s = refl
 one-call (timeCheck time) x more s = refl
 
 pub md-statistics : (calls : List Call) (t : Tables) (s : Statistics) → statisticsOver calls t s ≡ afterAll (history calls t) s
-md-statistics [] t s = refl
-md-statistics (c ∷ calls) t s =
-    md-statistics calls (step c t .after) (statisticsAfter c (step c t .answer) s) ∙ sym (one-call c (step c t .answer) (history calls (step c t .after)) s)
+md-statistics =
+    of-history
+    (λ c t. step c t .after)
+    (λ c t. statisticsAfter c (step c t .answer))
+    statisticsOver
+    history
+    (λ t s. refl)
+    (λ c calls t s. refl)
+    (λ t s. refl)
+    (λ c calls t s. one-call c (step c t .answer) (history calls (step c t .after)) s)

@@ -1,15 +1,15 @@
 -- Over every list of calls, from given tables, the statistics are those of the history: each telegram that was not refused with 1, with its outcome.
 -- Assumes nothing.
 use Prim.Native.Nat.{ℕ, _<_, _%_, _^_}
-use mathlib.Core.Path.{_≡_, refl, _∙_, ap}
+use mathlib.Core.Path.{_≡_, refl, sym, _∙_, ap}
 use mathlib.Core.Bool.{Bool, true, false, cond, _&&_}
-use mathlib.Core.List.{List, [], _∷_}
+use mathlib.Core.List.{List, _∷_}
 use lib.Dec.{eqb}
 use lib.ListN.{getD}
 use Rattle.telegram.specs.declared.Family.the-variants.{Pd}
 use Rattle.statistics.specs.declared.Statistics.{Statistics}
 use Rattle.statistics.specs.Statistics.{added, noStatistics, Arrived, afterAll}
-use Rattle.statistics.proofs.History.{many, same, received-counts, delivered-counts, refused-counts}
+use Rattle.statistics.proofs.History.{of-history, many, same, received-counts, delivered-counts, refused-counts}
 use Rattle.subscription_table.specs.Table.{Call, subscribe, unsubscribe, telegram, timeCheck, read, Answer, Table, step}
 use Rattle.subscriptions.specs.Receive.{recorded, statisticsAfter, statisticsOver, entered, history}
 use Rattle.subscription_decisions.specs.Receive.{uncounted, outcomeOf}
@@ -31,9 +31,16 @@ one-call (timeCheck time) x more s = refl
 one-call (read k set) x more s = refl
 
 pub statistics-of-history : (calls : List Call) (t : Table) (s : Statistics) → statisticsOver calls t s ≡ afterAll (history calls t) s
-statistics-of-history [] t s = refl
-statistics-of-history (c ∷ calls) t s =
-    statistics-of-history calls (step c t .after) (statisticsAfter c (step c t .answer) s) ∙ one-call c (step c t .answer) (history calls (step c t .after)) s
+statistics-of-history =
+    of-history
+    (λ c t. step c t .after)
+    (λ c t. statisticsAfter c (step c t .answer))
+    statisticsOver
+    history
+    (λ t s. refl)
+    (λ c calls t s. refl)
+    (λ t s. refl)
+    (λ c calls t s. sym (one-call c (step c t .answer) (history calls (step c t .after)) s))
 
 -- from nothing counted: received, delivered and each refusal number count the telegrams of the history, modulo 2^32
 module _ (calls : List Call) (t : Table) where

@@ -192,15 +192,6 @@ module _ {X : Type 0} (p : X → Bool) (d : X) (xs : List X) (i : ℕ) where
   pub lowest-end : length xs ≤ i → shift i (lowest p (drop i xs)) ≡ none
   lowest-end h = rw (drop-of-length-le xs h) refl
 
-  pub any-here : i < length xs → p (getD xs i d) ≡ true → any p (drop i xs) ≡ true
-  any-here h e = rw (at h, e) refl
-
-  pub any-next : i < length xs → p (getD xs i d) ≡ false → any p (drop i xs) ≡ any p (drop (i + 1) xs)
-  any-next h e = rw (at h, e) refl
-
-  pub any-end : length xs ≤ i → any p (drop i xs) ≡ false
-  any-end h = rw (drop-of-length-le xs h) refl
-
 pub lowest-start : {X : Type 0} (p : X → Bool) (xs : List X) → lowest p xs ≡ shift 0 (lowest p xs)
 lowest-start p xs = go (lowest p xs)
   where

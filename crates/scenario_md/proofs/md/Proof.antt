@@ -81,7 +81,7 @@ returns-2 c =
     (first-number s (b .result) (readTo 0 2) (f1 .result) 8 _ (b .ensures) (f1 .ensures)
     (number-read s (f1 .result) (f2 .result) 8 _ (f2 .ensures)
     (number-read s (f2 .result) (f3 .result) 16 _ (f3 .ensures)
-    (said-octets s (f3 .result) (c .before .before .before .before .before .before .before .before .before .before .before .buffer .result) (d .result) said _ (c .before .before .before .before .before .before .before .before .before .before .before .buffer .ensures .0) (d .ensures .1 .0) (c .before .before .before .before .before .before .before .if1 .left) (d .ensures .1 .1)
+    (said-octets s (f3 .result) (c .before .before .before .before .before .before .before .before .before .before .before .buffer .result) (d .result) said _ (c .before .before .before .before .before .before .before .before .before .before .before .buffer .ensures .0) (d .ensures .1 .0) (c .before .before .before .before .before .before .before .if1 .left) (d .ensures .1 .1 .0)
     ∙ same-telegram (c .before .before .before .before .before .before .word .ensures) (c .before .before .before .before .before .word2 .ensures)))))
 
 pub md-spec : {M : Type 1} → statement M

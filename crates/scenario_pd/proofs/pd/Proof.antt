@@ -75,7 +75,7 @@ returns-2 c =
     let d = c .before .before .before .before .before .before .before .before .before .before .before .before .octets in
     let e =
     pd-fields (a .local) (a .s .now) (b .result) (f1 .result) (f2 .result) (f3 .result) (b .ensures) (f1 .ensures) (f2 .ensures) (f3 .ensures)
-    ∙ said-octets (a .s .now) (f3 .result) (m .result) (d .result) (telegram (arrivalIn (a .local) (f1 .result) (f2 .result) (f3 .result))) _ (m .ensures .0) (d .ensures .1 .0) (c .before .before .before .before .before .before .before .before .before .before .if1 .left) (d .ensures .1 .1)
+    ∙ said-octets (a .s .now) (f3 .result) (m .result) (d .result) (telegram (arrivalIn (a .local) (f1 .result) (f2 .result) (f3 .result))) _ (m .ensures .0) (d .ensures .1 .0) (c .before .before .before .before .before .before .before .before .before .before .if1 .left) (d .ensures .1 .1 .0)
     ∙ same-telegram (c .before .before .before .before .before .before .before .before .before .word .ensures) (c .before .before .before .before .before .before .before .before .word2 .ensures) in (
       by-call (a .t) (a .store .now) e (c .before .before .before .before .receive .ensures .0),
       c .before .before .before .before .receive .ensures .1 ∙ sym (ap (λ (x : Option Call). counting x (a .t) (a .store .now) (a .statistics)) e),

@@ -79,7 +79,7 @@ returns-2 c =
     let w = c .before .before .before .before .before .before .word in
     answered-by
     (first-number (a .s .now) (b .result) (readTo 0 4) (k .result) 8 _ (b .ensures) (k .ensures)
-    (said-octets (a .s .now) (k .result) (m .result) (d .result) (λ (set : List ℕ). answerWords (step (read (eight (k .result)) set) (lentOf (a .t) (a .store .now)) .answer)) _ (m .ensures .0) (d .ensures .1 .0) (c .before .before .before .before .before .before .before .before .if1 .left) (d .ensures .1 .1)
+    (said-octets (a .s .now) (k .result) (m .result) (d .result) (λ (set : List ℕ). answerWords (step (read (eight (k .result)) set) (lentOf (a .t) (a .store .now)) .answer)) _ (m .ensures .0) (d .ensures .1 .0) (c .before .before .before .before .before .before .before .before .if1 .left) (d .ensures .1 .1 .0)
     ∙ ap some (sym (reads-lent (a .t) (a .store .now) _ (w .result) (eight (k .result)) (n .result) (w .ensures) (n .ensures .1)))))
     (c .before .before .read-slot .ensures)
 
