@@ -10,7 +10,7 @@ use borrow.Author.Tests.{le-leb, lt-leb, leb-true}
 use lib.Dec.{leb}
 use lib.ListN.{length, length-append, length-take, length-drop}
 use Rattle.octets.specs.Octets.{put}
-use Rattle.capture.specs.Hex.{hexOf}
+use Rattle.hex.specs.Hex.{hexOf}
 use Rattle.octets.proofs.Halves.{put-append, put-nil}
 use mathlib.Core.Option.{Option, none, some}
 use Rattle.answer.specs.Answer.{Room, room, putPiece, putAll, Puts, answeredBy, Answers, ascii, spaced}

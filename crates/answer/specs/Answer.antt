@@ -10,7 +10,7 @@ use lib.Dec.{ltb, leb}
 use lib.IntN.{ℤ, pos, negsuc}
 use lib.ListN.{length}
 use Rattle.octets.specs.Octets.{put}
-use Rattle.capture.specs.Hex.{digitsOf, hexOf}
+use Rattle.hex.specs.Hex.{digitsOf, hexOf}
 
 -- the octets of a text
 abbrev pub ascii : String → List ℕ

@@ -48,7 +48,7 @@ fn number(out: &mut [u8], at: usize, width: usize, x: u64) -> usize
 {
     let p = text(out, at, b" ");
     if width <= out.len() - p {
-        capture::put_number(out, p, width, x);
+        hex::put_number(out, p, width, x);
         return p + width;
     }
     out.len()
@@ -93,7 +93,7 @@ pub fn octets(out: &mut [u8], at: usize, s: &[u8]) -> usize
 {
     let p = text(out, at, b" ");
     if s.len() <= (out.len() - p) / 2 {
-        capture::put_octets(out, p, s);
+        hex::put_octets(out, p, s);
         return p + 2 * s.len();
     }
     out.len()

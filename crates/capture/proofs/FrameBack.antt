@@ -9,11 +9,11 @@ use borrow.Author.Tests.{le-leb, eq-eqb}
 use lib.Dec.{leb, eqb}
 use lib.ListN.{length}
 use Rattle.octets.specs.Octets.{Octets}
-use Rattle.capture.specs.Hex.{isHex, hexOf}
-use Rattle.capture.specs.declared.frame.Frame.{Frame}
-use Rattle.capture.specs.declared.frame.FrameLine.{FrameLine}
+use Rattle.hex.specs.Hex.{isHex, hexOf}
+use Rattle.capture.specs.declared.Frame.{Frame}
+use Rattle.capture.specs.declared.FrameLine.{FrameLine}
 use Rattle.capture.specs.Frame.{digitsAt, hasPair, isDatagram, isFrame, datagramOf, fieldsOf, frameOf, lineOf}
-use Rattle.capture.proofs.Back.{number-back, octets-back, digits-hex, octets-hex}
+use Rattle.hex.proofs.Back.{number-back, octets-back, digits-hex, octets-hex}
 
 hex-length : (s : List ℕ) → length (hexOf s) ≡ 2 * length s
 hex-length [] = refl

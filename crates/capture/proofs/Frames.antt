@@ -11,11 +11,11 @@ use lib.Dec.{ltb, leb, eqb}
 use lib.ListN.{length, getD, take, drop, length-drop, List·getD-eq-default}
 use lib.Seq.{take-all}
 use Rattle.octets.specs.Octets.{part}
-use Rattle.capture.specs.Hex.{digit, isHex, number}
-use Rattle.capture.specs.declared.frame.Frame.{Frame}
-use Rattle.capture.specs.declared.frame.FrameLine.{FrameLine}
+use Rattle.hex.specs.Hex.{digit, isHex, number}
+use Rattle.capture.specs.declared.Frame.{Frame}
+use Rattle.capture.specs.declared.FrameLine.{FrameLine}
 use Rattle.capture.specs.Frame.{spaceAt, digitsAt, hasPair, isHead, isDatagram, isFrame, datagramOf, fieldsOf, frameOf}
-use Rattle.capture.proofs.Digits.{and-left, and-right, digit-more, octets-length}
+use Rattle.hex.proofs.Digits.{and-left, and-right, digit-more, octets-length}
 
 -- a number stays below 16 for each of its digits
 number-below : (s : List ℕ) (c i : ℕ) → isHex s ≡ true → c < 16 ^ i → number c s < 16 ^ (i + length s)

@@ -7,12 +7,12 @@ use lib.Dec.{eqb, leb}
 use lib.ListN.{length, getD, drop}
 use Rattle.octets.specs.Octets.{part, put}
 use Rattle.topography.specs.declared.TopoCounts.{TopoCounts}
-use Rattle.capture.specs.Hex.{isHex, number, octetsOf, digitsOf, hexOf}
-use Rattle.capture.specs.declared.frame.Frame.{Frame}
-use Rattle.capture.specs.declared.frame.HeadLine.{HeadLine}
-use Rattle.capture.specs.declared.frame.HeadLine.the-variants as head
-use Rattle.capture.specs.declared.frame.FrameLine.{FrameLine}
-use Rattle.capture.specs.declared.frame.FrameLine.the-variants as frame
+use Rattle.hex.specs.Hex.{isHex, number, octetsOf, digitsOf, hexOf}
+use Rattle.capture.specs.declared.Frame.{Frame}
+use Rattle.capture.specs.declared.HeadLine.{HeadLine}
+use Rattle.capture.specs.declared.HeadLine.the-variants as head
+use Rattle.capture.specs.declared.FrameLine.{FrameLine}
+use Rattle.capture.specs.declared.FrameLine.the-variants as frame
 
 -- a space at a place of a line; a shorter line has none there
 abbrev pub spaceAt : ℕ → List ℕ → Bool

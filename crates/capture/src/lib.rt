@@ -1,131 +1,121 @@
-// Hexadecimal, capitals only: digits read as numbers and octets, and written.
-pub mod frame;
-
+// The lines of a capture: a head with the local counters, then one PD frame a line.
+use topography::TopoCounts;
 ghost use mathlib.Core.Path.{_≡_};
 ghost use mathlib.Core.Bool.{true};
-ghost use Prim.Native.Nat.{_+_, _*_, _/_, _<_, _≤_, max};
+ghost use Prim.Native.Nat.{_+_, _≤_};
 ghost use lib.ListN.{length};
-ghost use Rattle.octets.specs.Octets.{put};
-ghost use Rattle.capture.specs.Hex.{digit, isHex, octetsOf, digitOf, digitsOf, hexOf};
-ghost use Rattle.capture.specs.Hex.{number as numberFrom};
+ghost use Rattle.capture.specs.Frame.{digitsAt, numberAt, hasPair, isHead, headOf, isDatagram, isFrame, Reads};
 
-// The value of a capital digit; 16 of any other octet.
-fn value(x: u8) -> u8
-    ensures { λ r. ⌜ r ≡ digit x ⌝ }
-{
-    if x < 48 {
-        return 16;
-    }
-    if x < 58 {
-        return x - 48;
-    }
-    if x < 65 {
-        return 16;
-    }
-    if x < 71 {
-        return x - 55;
-    }
-    16
+// A PD frame; its datagram has so many octets.
+pub struct Frame {
+    pub sender: u32,
+    pub destination: u32,
+    pub time: u64,
+    pub octets: usize,
 }
 
-fn greater(a: u8, b: u8) -> u8
-    ensures { λ r. ⌜ r ≡ max a b ⌝ }
-{
-    if a < b { b } else { a }
+// Line 1 of a capture: the local counters, or a line of another form.
+pub enum HeadLine {
+    Counters(TopoCounts),
+    Bad,
 }
 
-// Every octet of s is a digit. One pass with no way out between, so that the compiler takes many octets at once.
-pub fn is_hex(s: &[u8]) -> bool
-    ensures { λ r. ⌜ r ≡ isHex (now (s .entry)) ⌝ }
+// A further line: a frame, or a line of another form.
+pub enum FrameLine {
+    Frame(Frame),
+    Bad,
+}
+
+// The number that 8 digits write at a place.
+fn word_at(s: &[u8], at: usize) -> u32
+    requires { ⌜ at + 8 ≤ length (now s) ⌝ }
+    requires { ⌜ digitsAt 8 at (now s) ≡ true ⌝ }
+    ensures { λ r. ⌜ r ≡ numberAt 8 at (now (s .entry)) ⌝ }
 {
-    let mut worst: u8 = 0;
-    let mut i: usize = 0;
-    while i < s.len() {
-        worst = greater(worst, value(s[i]));
-        i += 1;
+    let e = at + 8;
+    hex::number(&s[at..e]) as u32
+}
+
+// Two fields of 8 digits at the front of a line, a single space between.
+fn has_pair(s: &[u8]) -> bool
+    requires { ⌜ 17 ≤ length (now s) ⌝ }
+    ensures { λ r. ⌜ r ≡ hasPair (now (s .entry)) ⌝ }
+{
+    if hex::is_hex(&s[0..8]) {
+        if s[8] == b' ' {
+            return hex::is_hex(&s[9..17]);
+        }
     }
-    worst < 16
+    false
 }
 
-fn wide(x: u8) -> u64
-    ensures { λ r. ⌜ r ≡ x ⌝ }
+// Line 1 is of the form.
+fn is_head(s: &[u8]) -> bool
+    ensures { λ r. ⌜ r ≡ isHead (now (s .entry)) ⌝ }
 {
-    x as u64
-}
-
-// The number that at most 16 digits write.
-pub fn number(s: &[u8]) -> u64
-    requires { ⌜ length (now s) ≤ 16 ⌝ }
-    requires { ⌜ isHex (now s) ≡ true ⌝ }
-    ensures { λ r. ⌜ r ≡ numberFrom 0 (now (s .entry)) ⌝ }
-{
-    let mut c: u64 = 0;
-    let mut i: usize = 0;
-    while i < s.len() {
-        c = 16 * c + wide(value(s[i]));
-        i += 1;
+    if s.len() != 17 {
+        return false;
     }
-    c
+    has_pair(s)
 }
 
-// The octet that two digits write.
-fn joined(a: u8, b: u8) -> u8
-    requires { ⌜ (digit a < 16) × (digit b < 16) ⌝ }
-    ensures { λ r. ⌜ r ≡ 16 * digit a + digit b ⌝ }
+// 0 to 2,944 digits, an even number.
+fn is_datagram(digits: &[u8]) -> bool
+    ensures { λ r. ⌜ r ≡ isDatagram (now (digits .entry)) ⌝ }
 {
-    16 * value(a) + value(b)
-}
-
-// The octets that digits write, into the target's first octets.
-pub fn decode(digits: &[u8], target: &mut [u8])
-    requires { ⌜ isHex (now digits) ≡ true ⌝ }
-    requires { ⌜ length (now digits) / 2 ≤ length (now target) ⌝ }
-    ensures { λ _. ⌜ now (target .exit) ≡ put 0 (octetsOf (now (digits .entry))) (now (target .entry)) ⌝ }
-{
-    let n = digits.len() / 2;
-    let mut i: usize = 0;
-    while i < n {
-        target[i] = joined(digits[2 * i], digits[2 * i + 1]);
-        i += 1;
+    if 2944 < digits.len() {
+        return false;
     }
+    if digits.len() % 2 != 0 {
+        return false;
+    }
+    hex::is_hex(digits)
 }
 
-// The capital digit of a value.
-fn capital(d: u8) -> u8
-    requires { ⌜ d < 16 ⌝ }
-    ensures { λ r. ⌜ r ≡ digitOf d ⌝ }
+// Sender, destination, time, datagram; single spaces between.
+fn is_frame(s: &[u8]) -> bool
+    ensures { λ r. ⌜ r ≡ isFrame (now (s .entry)) ⌝ }
 {
-    if d < 10 {
-        return 48 + d;
+    if s.len() < 35 {
+        return false;
     }
-    55 + d
+    if has_pair(s) {
+        if s[17] == b' ' {
+            if hex::is_hex(&s[18..34]) {
+                if s[34] == b' ' {
+                    return is_datagram(&s[35..]);
+                }
+            }
+        }
+    }
+    false
 }
 
-// n digits of x written into target at k.
-pub fn put_number(target: &mut [u8], k: usize, n: usize, x: u64)
-    requires { ⌜ k + n ≤ length (now target) ⌝ }
-    ensures { λ _. ⌜ now (target .exit) ≡ put k (digitsOf n x) (now (target .entry)) ⌝ }
+// Line 1 read.
+pub fn read_head(s: &[u8]) -> HeadLine
+    ensures { λ r. ⌜ r ≡ headOf (now (s .entry)) ⌝ }
 {
-    let mut rest = x;
-    let mut i = n;
-    while 0 < i {
-        i -= 1;
-        target[k + i] = capital((rest % 16) as u8);
-        rest /= 16;
+    if is_head(s) {
+        return HeadLine::Counters(TopoCounts {
+            etb_topo_cnt: word_at(s, 0),
+            op_trn_topo_cnt: word_at(s, 9),
+        });
     }
+    HeadLine::Bad
 }
 
-// The digits of octets written into target at k.
-pub fn put_octets(target: &mut [u8], k: usize, s: &[u8])
-    requires { ⌜ k + 2 * length (now s) ≤ length (now target) ⌝ }
-    ensures { λ _. ⌜ now (target .exit) ≡ put k (hexOf (now (s .entry))) (now (target .entry)) ⌝ }
+// A further line read, a frame's datagram into the buffer's first octets. A bad line leaves the buffer as it was.
+pub fn read_frame(s: &[u8], buffer: &mut [u8; 1472]) -> FrameLine
+    ensures { λ r. ⌜ Reads (now (s .entry)) (now (buffer .entry)) r (now (buffer .exit)) ⌝ }
 {
-    let mut at = k;
-    let mut i: usize = 0;
-    while i < s.len() {
-        target[at] = capital(s[i] / 16);
-        target[at + 1] = capital(s[i] % 16);
-        at += 2;
-        i += 1;
+    if is_frame(s) {
+        hex::decode(&s[35..], buffer);
+        return FrameLine::Frame(Frame {
+            sender: word_at(s, 0),
+            destination: word_at(s, 9),
+            time: hex::number(&s[18..34]),
+            octets: (s.len() - 35) / 2,
+        });
     }
+    FrameLine::Bad
 }

@@ -1,7 +1,5 @@
 // A capture listed: PD frames read from standard input, one a line, each handed to a subscription and answered by a line on standard output.
-mod listing;
-
-use capture::frame::HeadLine;
+use capture::HeadLine;
 use libc::STDIN_FILENO;
 use line::output;
 use listing::Listing;
@@ -89,7 +87,7 @@ fn take_head(r: Run, s: &[u8], out: &mut [u8]) -> Run
     requires { ⌜ r .waiting ≤ length (now out) ⌝ }
     ensures { λ after. ⌜ after .waiting ≤ length (now (out .entry)) ⌝ }
 {
-    let h = capture::frame::read_head(s);
+    let h = capture::read_head(s);
     match h {
         HeadLine::Counters(local) => start(r, local),
         HeadLine::Bad => bad_start(r, out),

@@ -9,7 +9,7 @@ use native.Mathlib.Omega.{arith}
 use lib.Dec.{eqb}
 use lib.ListN.{length, take, replicate}
 use Rattle.octets.specs.Octets.{part}
-use Rattle.capture.specs.Hex.{number}
+use Rattle.hex.specs.Hex.{number}
 use Rattle.line.specs.declared.Field.{Field}
 use Rattle.line.specs.Line.{numberField, octetsField, octetsIn, ends, withEnd, withNumber, withField, eight, targetOf}
 use Rattle.line.proofs.Said.{fresh, before-read}

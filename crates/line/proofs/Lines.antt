@@ -12,8 +12,8 @@ use lib.ListN.{length, getD, take, drop, drop-of-length-le, length-append}
 use lib.Seq.{drop-cons, take-at}
 use Rattle.io.specs.Counts.{Counts}
 use Rattle.octets.specs.Octets.{part, put}
-use Rattle.capture.specs.Hex.{isHex}
-use Rattle.capture.proofs.Digits.{and-left, and-right}
+use Rattle.hex.specs.Hex.{isHex}
+use Rattle.hex.proofs.Digits.{and-left, and-right}
 use Rattle.line.specs.declared.Field.{Field}
 use Rattle.line.specs.declared.Count.{Count}
 use Rattle.line.specs.Line.{verbIs, hasDigits, badAt, readTo, fieldOf, octetsField, octetsIn, ends, left, lastField, targetAfter}

@@ -6,7 +6,7 @@ use mathlib.Core.Option.{Option, none, some}
 use lib.Dec.{eqb, ltb, leb}
 use lib.ListN.{length, getD, replicate}
 use Rattle.octets.specs.Octets.{part, put}
-use Rattle.capture.specs.Hex.{isHex, number, octetsOf}
+use Rattle.hex.specs.Hex.{isHex, number, octetsOf}
 use Rattle.line.specs.declared.Field.{Field}
 use Rattle.line.specs.declared.Count.{Count}
 use Rattle.answer.specs.Answer.{spaced, decimal, octets}

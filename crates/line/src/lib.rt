@@ -89,7 +89,7 @@ fn has_digits(s: &[u8], at: usize, n: usize) -> bool
     }
     let a = at + 1;
     let e = a + n;
-    capture::is_hex(&s[a..e])
+    hex::is_hex(&s[a..e])
 }
 
 // The field of n digits, at most 16, behind another.
@@ -105,7 +105,7 @@ pub fn number(s: &[u8], before: Field, n: usize) -> Field
         let a = at + 1;
         let e = a + n;
         return Field {
-            value: capture::number(&s[a..e]),
+            value: hex::number(&s[a..e]),
             next: e,
             is_bad: false,
         };
@@ -126,7 +126,7 @@ pub fn octets_field(s: &[u8], before: Field, target: &mut [u8]) -> Field
     if has_digits(s, at, n) {
         let a = at + 1;
         let e = a + n;
-        capture::decode(&s[a..e], target);
+        hex::decode(&s[a..e], target);
         return Field {
             value: 0,
             next: e,
@@ -175,7 +175,7 @@ pub fn octets(s: &[u8], before: Field, target: &mut [u8]) -> Count
         if is_last(s, before, n) {
             let a = at + 1;
             let e = a + 2 * n;
-            capture::decode(&s[a..e], target);
+            hex::decode(&s[a..e], target);
             return Count {
                 count: n,
                 is_bad: false,

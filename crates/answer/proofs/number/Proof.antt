@@ -4,8 +4,8 @@ use Prim.Native.Nat.{_+_}
 use native.Mathlib.Omega.{arith}
 use lib.ListN.{length}
 use Rattle.answer.specs.Answer.{spaced, number}
-use Rattle.capture.specs.Hex.{digitsOf}
-use Rattle.capture.proofs.Written.{digits-length}
+use Rattle.hex.specs.Hex.{digitsOf}
+use Rattle.hex.proofs.Written.{digits-length}
 use borrow.Author.Needs.{needs}
 use Rattle.answer.proofs.Rooms.{fits, over, within, _⨟_}
 use Rattle.answer.proofs.number.Statement.{statement}

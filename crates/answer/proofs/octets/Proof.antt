@@ -4,7 +4,7 @@ use Prim.Native.Nat.{_+_, _*_}
 use native.Mathlib.Omega.{arith}
 use lib.ListN.{length}
 use Rattle.answer.specs.Answer.{spaced, octets}
-use Rattle.capture.specs.Hex.{hexOf}
+use Rattle.hex.specs.Hex.{hexOf}
 use borrow.Author.Needs.{needs}
 use Rattle.answer.proofs.Rooms.{fits, over, within, hex-length, _⨟_}
 use Rattle.answer.proofs.octets.Statement.{statement}

@@ -4,7 +4,7 @@ use Prim.Native.Nat.{ℕ, _+_, _-_}
 use native.Mathlib.Omega.{arith}
 use native.Mathlib.Nat.{add-sub-cancel-left}
 use lib.ListN.{take, drop}
-use Rattle.capture.specs.Hex.{isHex}
+use Rattle.hex.specs.Hex.{isHex}
 use Rattle.line.proofs.Lines.{no-room, no-space, behind-space}
 use borrow.Author.Needs.{needs}
 use Rattle.line.proofs.has_digits.Statement.{statement}

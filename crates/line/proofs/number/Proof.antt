@@ -5,7 +5,7 @@ use mathlib.Core.Bool.{true, false}
 use native.Mathlib.Nat.{add-sub-cancel-left}
 use lib.ListN.{take, drop, length-take, length-drop}
 use Rattle.octets.specs.Octets.{part}
-use Rattle.capture.specs.Hex.{number}
+use Rattle.hex.specs.Hex.{number}
 use Rattle.line.specs.Line.{hasDigits, readTo}
 use native.Mathlib.Omega.{arith}
 use Rattle.line.proofs.Lines.{digits-within, digits-hex, field-found, field-bad}

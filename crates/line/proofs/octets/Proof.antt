@@ -8,8 +8,8 @@ use native.Mathlib.Omega.{arith}
 use lib.ListN.{length, take, drop}
 use Rattle.octets.specs.Octets.{part, put}
 use Rattle.octets.proofs.Parts.{part-length}
-use Rattle.capture.specs.Hex.{octetsOf}
-use Rattle.capture.proofs.Digits.{octets-length}
+use Rattle.hex.specs.Hex.{octetsOf}
+use Rattle.hex.proofs.Digits.{octets-length}
 use Rattle.line.specs.Line.{hasDigits, octetsIn}
 use Rattle.line.proofs.Lines.{digits-within, digits-hex, last-digits, last-found, last-bad, last-long, target-is, front-counts, front-read}
 use borrow.Author.Needs.{needs}

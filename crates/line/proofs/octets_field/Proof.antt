@@ -6,8 +6,8 @@ use native.Mathlib.Nat.{add-sub-cancel-left}
 use lib.ListN.{length, take, drop}
 use Rattle.octets.specs.Octets.{part, put}
 use Rattle.octets.proofs.Parts.{part-length}
-use Rattle.capture.specs.Hex.{octetsOf}
-use Rattle.capture.proofs.Digits.{octets-length}
+use Rattle.hex.specs.Hex.{octetsOf}
+use Rattle.hex.proofs.Digits.{octets-length}
 use Rattle.line.specs.declared.Field.{Field}
 use Rattle.line.specs.Line.{hasDigits, octetsIn}
 use native.Mathlib.Omega.{arith}
