@@ -175,6 +175,7 @@ fn sources() -> String {
         "statistics",
         "publication",
         "subscription",
+        "boundary",
         "trdp",
     ];
     crates.map(|name| read(&format!("crates/{name}/src/lib.rt"))).join("\n")

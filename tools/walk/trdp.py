@@ -16,8 +16,9 @@ use denote.Array.{Array}
 use Rattle.session_table.specs.Table.{step as mdStep, telegram as mdTelegram}
 use Rattle.packed_calls.specs.Calls.{leftBy}
 use Rattle.packed.specs.Packed.{tablesOf as unpacked}
-use Rattle.trdp.specs.declared.MdOutcome.{MdOutcome}
-use Rattle.trdp.specs.Sessions.{mdOutcomeOf, Arrives, Receives as MdReceives}
+use Rattle.boundary.specs.declared.MdOutcome.{MdOutcome}
+use Rattle.boundary.specs.Sessions.{mdOutcomeOf}
+use Rattle.trdp.specs.Sessions.{Arrives, Receives as MdReceives}
 use Rattle.trdp.proofs.Messages.{received}
 use Rattle.statistics.specs.declared.Statistics.{Statistics}
 use Rattle.arrival.specs.declared.Arrival.{Arrival}
@@ -31,13 +32,14 @@ use Rattle.subscriptions.specs.Calls.{Follows as TableFollows}
 use Rattle.subscription_decisions.specs.Calls.{meaning}
 use Rattle.subscriptions.specs.Receive.{Receives as TableReceives}
 use Rattle.subscription_decisions.specs.Read.{readBy}
-use Rattle.trdp.specs.declared.Outcome.{Outcome}
-use Rattle.trdp.specs.declared.Shown.{Shown}
-use Rattle.trdp.specs.Subscriptions.{outcomeOf, Follows, Receives, Reads, ofReading, isShown}
+use Rattle.boundary.specs.declared.Outcome.{Outcome}
+use Rattle.boundary.specs.declared.Shown.{Shown}
+use Rattle.boundary.specs.Subscriptions.{outcomeOf, ofReading, isShown}
+use Rattle.trdp.specs.Subscriptions.{Follows, Receives, Reads}
 use Rattle.trdp.proofs.Values.{outcomeBy, shownBy, mdOutcomeBy, octetsLent, telling}
 use Rattle.trdp.proofs.Following.{saidAnswer, saidRecords, saidStore, saidStatistics, answered, counted, follows, receives, slot-reads, slot-there}
 '''
-uses_proofs=''.join('use %s.%s as %s\nuse %s.%s.Laws as %s′\n'%(c,n,k,c,n,k) for c,n,k in (('Rattle.subscription.proofs','Subscription','X'),('Rattle.subscription.proofs','Filter','F'),('Rattle.subscription_decisions.proofs','Answer','N'),('Rattle.arrival.proofs','Arrival','P'),('Rattle.subscription_decisions.proofs','Reading','Q'),('Rattle.statistics.proofs','Statistics','Z'),('Rattle.trdp.proofs','Outcome','OC'),('Rattle.trdp.proofs','Shown','SH'),('Rattle.trdp.proofs','MdOutcome','MO'),('Rattle.telegram.proofs','Family','FA')))
+uses_proofs=''.join('use %s.%s as %s\nuse %s.%s.Laws as %s′\n'%(c,n,k,c,n,k) for c,n,k in (('Rattle.subscription.proofs','Subscription','X'),('Rattle.subscription.proofs','Filter','F'),('Rattle.subscription_decisions.proofs','Answer','N'),('Rattle.arrival.proofs','Arrival','P'),('Rattle.subscription_decisions.proofs','Reading','Q'),('Rattle.statistics.proofs','Statistics','Z'),('Rattle.boundary.proofs','Outcome','OC'),('Rattle.boundary.proofs','Shown','SH'),('Rattle.boundary.proofs','MdOutcome','MO'),('Rattle.telegram.proofs','Family','FA')))
 L,ST,D,TIME,K=('l','slice','Subscription'),('st','slice','u8'),('d','shr','u8'),('time','plain','u64'),('k','plain','usize')
 F,TM,BH,AR,SS=('fl','plain','Filter'),('tm','plain','u32'),('bh','plain','u8'),('ar','plain','Arrival'),('ss','ref','Statistics')
 TB=('tb','ref','Octets')
@@ -51,7 +53,7 @@ asked,freed,checked='(subscribe (request {fl} {tm} {bh}) {time})','(unsubscribe 
 got='(telegram {ar} {d})'
 heard='(mdStep (mdTelegram {ar} {d}) (unpacked {tb}))'
 table={
- 'of_answer':dict(params=[('x','plain','Answer')],res='Outcome',w='outcomeOf (meaning {x})'),
+ 'of_answer':dict(of='boundary',here=True,params=[('x','plain','Answer')],res='Outcome',w='outcomeOf (meaning {x})'),
  'subscribe':beneath(asked,[L,ST,F,TM,BH,TIME]),
  'trdp_subscribe':over(asked,[L,ST,F,TM,BH,TIME]),
  'unsubscribe':beneath(freed,[L,ST,K]),
@@ -63,7 +65,7 @@ table={
  'trdp_receive_pd':dict(root=True,params=[L,ST,SS,AR,D],res='Outcome',told=lambda r,l,s,z:'Receives {ar} {d} {l} {st} {ss} (%s) (%s) (%s) (%s)'%(r,l,s,z),hand=dict(said=lambda s,arm:'receives ar d l st ss')),
  'slot_at':dict(of='subscriptions',params=[T,K],res='Subscription',w='getD {t} {k} freeRecord'),
  'read_record':dict(of='subscription_decisions',here='subscriptions',params=[('n₁','plain','usize'),('n₂','plain','usize'),('x','plain','Subscription')],res='Reading',w='readBy (fits {n₁} {n₂}) {x}'),
- 'of_reading':dict(params=[('x','plain','Reading'),K],res='Shown',w='ofReading {k} {x}',requires='isShown {x} ≡ true → {k} < 32'),
+ 'of_reading':dict(of='boundary',here=True,params=[('x','plain','Reading'),K],res='Shown',w='ofReading {k} {x}',requires='isShown {x} ≡ true → {k} < 32'),
  'trdp_read':dict(root=True,params=[T,SO,K],res='Shown',told=lambda r:'Reads {k} {t} {so} (%s)'%r,hand=dict(said=lambda s,arm:'slot-reads k t so',requires=lambda s,g,n:'slot-there k t so')),
  'arrive_md':dict(params=[TB,AR,D],res='MdOutcome',w='mdOutcomeOf (%s .answer)'%heard,last=['leftBy (mdTelegram {ar} {d}) (%s .answer) (%s .after) {tb}'%(heard,heard)],told=lambda r,z:'Arrives {ar} {d} {tb} (%s) (%s)'%(r,z),paths=['e .answers','e .leaves'],
    tells=('unpacked (v′ .0) ≡ %s .after'%heard,'e .means')),

@@ -23,9 +23,10 @@ use Rattle.publication.specs.declared.Sent.{Sent}
 use Rattle.publication.specs.Publication.{Sends}
 use Rattle.dataset.specs.Walk.{Walked, Converts, refusalOf as walkRefusal}
 use Rattle.dataset.specs.declared.Converted.{Converted}
-use Rattle.trdp.specs.declared.Outcome.{Outcome}
-use Rattle.trdp.specs.declared.Sending.{Sending}
-use Rattle.trdp.specs.Wire.{granted, refused, ofWritten, ofConverted, ofSent, noMdDatagram, ofMdTaken, Writes, SendsOut, ConvertsTo}
+use Rattle.boundary.specs.declared.Outcome.{Outcome}
+use Rattle.boundary.specs.declared.Sending.{Sending}
+use Rattle.boundary.specs.Wire.{granted, refused, ofWritten, ofConverted, ofSent, noMdDatagram, ofMdTaken}
+use Rattle.trdp.specs.Wire.{Writes, SendsOut, ConvertsTo}
 
 -- what is made of an answer is made of each of its cases
 pub answer-of : {G A B : Type 0} (f : A → B) (g : G → A) (r : ℕ → A) (v : ℕ) (x : G) → f (answer g r v x) ≡ answer (λ y. f (g y)) (λ n. f (r n)) v x

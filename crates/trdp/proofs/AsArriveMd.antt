@@ -29,8 +29,9 @@ use Rattle.subscriptions.proofs.Values.{arrivalBy}
 use Rattle.session_table.specs.Table.{step as mdStep, telegram as mdTelegram}
 use Rattle.packed_calls.specs.Calls.{leftBy}
 use Rattle.packed.specs.Packed.{tablesOf as unpacked}
-use Rattle.trdp.specs.declared.MdOutcome.{MdOutcome}
-use Rattle.trdp.specs.Sessions.{mdOutcomeOf, Arrives}
+use Rattle.boundary.specs.declared.MdOutcome.{MdOutcome}
+use Rattle.boundary.specs.Sessions.{mdOutcomeOf}
+use Rattle.trdp.specs.Sessions.{Arrives}
 use Rattle.arrival.specs.declared.Arrival.{Arrival}
 use Rattle.trdp.proofs.Values.{mdOutcomeBy, octetsLent, telling}
 use Rattle.trdp.proofs.arrive_md as callee

@@ -22,11 +22,11 @@ use Rattle.walks.proofs.Steps.{Call, none-lent}
 use Rattle.subscriptions.proofs.Values.{answerBy}
 use Rattle.subscription_decisions.specs.declared.Answer.{Answer}
 use Rattle.subscription_decisions.specs.Calls.{meaning}
-use Rattle.trdp.specs.declared.Outcome.{Outcome}
-use Rattle.trdp.specs.Subscriptions.{outcomeOf}
+use Rattle.boundary.specs.declared.Outcome.{Outcome}
+use Rattle.boundary.specs.Subscriptions.{outcomeOf}
 use Rattle.trdp.proofs.Values.{outcomeBy}
-use Rattle.trdp.proofs.of_answer as callee
-use Rattle.trdp.proofs.of_answer.Symbol.{name as #g}
+use Rattle.boundary.proofs.of_answer as callee
+use Rattle.boundary.proofs.of_answer.Symbol.{name as #g}
 
 module _ {M : Type 1} (𝓤 : URA M) (H : Heap 𝓤) (A : Atoms 𝓤) (W : Given 𝓤 H A) (mem : Memory → SProp 𝓤) (run : Routine → Fun 𝓤) where
   abbrev pub G : Contract 𝓤

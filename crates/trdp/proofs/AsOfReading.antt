@@ -26,11 +26,11 @@ use Rattle.walks.proofs.Steps.{Call, none-lent}
 use mathlib.Core.Bool.{true}
 use Rattle.subscriptions.proofs.Values.{readingBy}
 use Rattle.subscription_decisions.specs.declared.Reading.{Reading}
-use Rattle.trdp.specs.declared.Shown.{Shown}
-use Rattle.trdp.specs.Subscriptions.{ofReading, isShown}
+use Rattle.boundary.specs.declared.Shown.{Shown}
+use Rattle.boundary.specs.Subscriptions.{ofReading, isShown}
 use Rattle.trdp.proofs.Values.{shownBy}
-use Rattle.trdp.proofs.of_reading as callee
-use Rattle.trdp.proofs.of_reading.Symbol.{name as #g}
+use Rattle.boundary.proofs.of_reading as callee
+use Rattle.boundary.proofs.of_reading.Symbol.{name as #g}
 
 module _ {M : Type 1} (𝓤 : URA M) (H : Heap 𝓤) (A : Atoms 𝓤) (W : Given 𝓤 H A) (mem : Memory → SProp 𝓤) (run : Routine → Fun 𝓤) where
   abbrev pub G : Contract 𝓤

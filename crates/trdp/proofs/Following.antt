@@ -27,7 +27,8 @@ use Rattle.subscription_decisions.specs.declared.Reading.{Reading}
 use Rattle.subscription_decisions.specs.declared.Reading.the-variants as reading
 use Rattle.subscription_decisions.specs.declared.View.{View}
 use Rattle.subscriptions.proofs.Viewing.{reads, not-there}
-use Rattle.trdp.specs.Subscriptions.{outcomeOf, Follows, Receives, stateNumber, ofReading, isShown, meant, Reads}
+use Rattle.boundary.specs.Subscriptions.{outcomeOf, stateNumber, ofReading, isShown}
+use Rattle.trdp.specs.Subscriptions.{Follows, Receives, meant, Reads}
 
 -- the code's answer, from document 01's; no call answers a reading so
 abbrev told : table.Answer → Answer

@@ -23,10 +23,11 @@ use Rattle.session.specs.declared.Session.{Session}
 use Rattle.packed_calls.specs.Calls as packed
 use Rattle.packed_calls.specs.Calls.{leftBy}
 use Rattle.packed.specs.Packed.{tablesOf}
-use Rattle.trdp.specs.declared.Outcome.{Outcome}
-use Rattle.trdp.specs.declared.MdOutcome.{MdOutcome}
-use Rattle.trdp.specs.declared.SessionSeen.{SessionSeen}
-use Rattle.trdp.specs.Sessions.{outcomeOf, Follows, mdOutcomeOf, Arrives, Receives, Checks, seen, notSeen, sessionSeen}
+use Rattle.boundary.specs.declared.Outcome.{Outcome}
+use Rattle.boundary.specs.declared.MdOutcome.{MdOutcome}
+use Rattle.boundary.specs.declared.SessionSeen.{SessionSeen}
+use Rattle.boundary.specs.Sessions.{outcomeOf, mdOutcomeOf, seen, notSeen}
+use Rattle.trdp.specs.Sessions.{Follows, Arrives, Receives, Checks, sessionSeen}
 
 -- an array lent whole
 pub whole : (n : ℕ) (s : List ℕ) → length s ≡ n → part n 0 s ≡ s

@@ -9,12 +9,12 @@ use denote.Array.{Array}
 use denote.Builtin.{u8}
 use Rattle.walks.proofs.ByValue.{By, declared}
 use Rattle.walks.proofs.Steps.{Loan}
-use Rattle.trdp.proofs.Outcome as Outcome
-use Rattle.trdp.proofs.Outcome.Laws as Outcome′
-use Rattle.trdp.proofs.MdOutcome as MdOutcome
-use Rattle.trdp.proofs.MdOutcome.Laws as MdOutcome′
-use Rattle.trdp.proofs.Shown as Shown
-use Rattle.trdp.proofs.Shown.Laws as Shown′
+use Rattle.boundary.proofs.Outcome as Outcome
+use Rattle.boundary.proofs.Outcome.Laws as Outcome′
+use Rattle.boundary.proofs.MdOutcome as MdOutcome
+use Rattle.boundary.proofs.MdOutcome.Laws as MdOutcome′
+use Rattle.boundary.proofs.Shown as Shown
+use Rattle.boundary.proofs.Shown.Laws as Shown′
 
 -- what is lent by reference alone
 pub record Lent : Type 2 where

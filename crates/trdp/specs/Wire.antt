@@ -1,113 +1,28 @@
--- The answers of the calls on telegrams, publications and datasets, as structs of numbers: refusal 0 means granted; a refusal has its number and no other content.
+-- The calls on telegrams, publications and datasets: what each answers, and what its target holds after it.
 use Prim.Native.Nat.{ℕ}
 use mathlib.Core.Path.{_≡_}
 use mathlib.Core.List.{List}
-use lib.IntN.{pos}
-use lib.ListN.{length, replicate}
+use lib.ListN.{length}
 use Rattle.refusal.specs.Refusal.{answer, after}
-use Rattle.octets.specs.Octets.{put, part}
-use Rattle.telegram.specs.declared.Common.{Common}
-use Rattle.telegram.specs.declared.Written.{Written}
+use Rattle.octets.specs.Octets.{put}
 use Rattle.telegram.specs.declared.Written.the-variants as written
 use Rattle.pd.specs.Pd.{frameOf}
-use Rattle.pd.specs.declared.PdHeader.{PdHeader}
-use Rattle.pd.specs.declared.PdTaken.{PdTaken}
-use Rattle.pd.specs.declared.PdTaken.the-variants as pd
-use Rattle.md.specs.Md.{sessionIdOf}
-use Rattle.md.specs.declared.MdHeader.{MdHeader}
-use Rattle.md.specs.declared.MdTaken.{MdTaken}
-use Rattle.md.specs.declared.MdTaken.the-variants as md
 use Rattle.publication.specs.declared.Publication.{Publication}
 use Rattle.publication.specs.Publication.{sentAt}
 use Rattle.dataset.specs.Walk.{Walked, refusalOf, doneOf}
-use Rattle.dataset.specs.declared.Converted.{Converted}
-use Rattle.dataset.specs.declared.Converted.the-variants as converted
-use Rattle.trdp.specs.declared.Outcome.{Outcome}
-use Rattle.trdp.specs.declared.PdDatagram.{PdDatagram}
-use Rattle.trdp.specs.declared.MdDatagram.{MdDatagram}
-use Rattle.trdp.specs.declared.Sending.{Sending}
-
--- granted, with a slot, a count or a length
-abbrev pub granted : ℕ → Outcome
-granted v = record { refusal = 0; value = v }
-
--- refused with a number
-abbrev pub refused : ℕ → Outcome
-refused r = record { refusal = r; value = 0 }
-
--- ---- telegrams taken apart
-
-abbrev pub noCommon : Common
-noCommon =
-    record {
-      «sequence_counter» = 0;
-      «protocol_version» = 0;
-      «msg_type» = 0;
-      «com_id» = 0;
-      «etb_topo_cnt» = 0;
-      «op_trn_topo_cnt» = 0;
-      «dataset_length» = 0;
-    }
-
-abbrev pub noPdHeader : PdHeader
-noPdHeader = record { common = noCommon; reserved = 0; «reply_com_id» = 0; «reply_ip_address» = 0 }
-
-abbrev pub ofPdTaken : PdTaken → PdDatagram
-ofPdTaken (pd.Header h) = record { refusal = 0; header = h }
-ofPdTaken (pd.Refused r) = record { refusal = r; header = noPdHeader }
-
-abbrev pub noMdHeader : MdHeader
-noMdHeader = record { common = noCommon; «reply_status» = pos 0; «reply_timeout» = 0 }
-
-abbrev pub noMdDatagram : ℕ → MdDatagram
-noMdDatagram r =
-    record {
-      refusal = r;
-      header = noMdHeader;
-      «session_id» = replicate 16 0;
-      «source_uri» = replicate 32 0;
-      «destination_uri» = replicate 32 0;
-    }
-
--- of datagram d: sessionId 16 at 28, source URI 32 at 48, destination URI 32 at 80
-abbrev pub ofMdTaken : List ℕ → MdTaken → MdDatagram
-ofMdTaken d (md.Header h) =
-    record {
-      refusal = 0;
-      header = h;
-      «session_id» = sessionIdOf d;
-      «source_uri» = part 32 48 d;
-      «destination_uri» = part 32 80 d;
-    }
-ofMdTaken d (md.Refused r) = noMdDatagram r
-
--- ---- telegrams written
-
--- how many octets were written
-abbrev pub ofWritten : Written → Outcome
-ofWritten (written.Octets n) = granted n
-ofWritten (written.Refused r) = refused r
+use Rattle.boundary.specs.declared.Outcome.{Outcome}
+use Rattle.boundary.specs.declared.Sending.{Sending}
+use Rattle.boundary.specs.Wire.{granted, refused, ofSent}
 
 -- a telegram was written to a target, or refused; octets behind what is written stay
 pub record Writes (refusal : ℕ) (telegram before : List ℕ) (r : Outcome) (target : List ℕ) : Type 0 where
   pub answers : r ≡ answer granted refused refusal (length telegram)
   pub leaves : target ≡ after refusal (put 0 telegram before) before
 
--- a sending's answer, and the publication after it
-abbrev pub ofSent : Written → Publication → Sending
-ofSent w p = record { refusal = ofWritten w .refusal; length = ofWritten w .value; publication = p }
-
 -- a publication was sent, or refused; a refused sending leaves record and target as they were
 pub record SendsOut (refusal : ℕ) (p : Publication) (time : ℕ) (dataset before : List ℕ) (r : Sending) (target : List ℕ) : Type 0 where
   pub answers : r ≡ ofSent (answer written.Octets written.Refused refusal (length (frameOf (p .header) dataset))) (after refusal (sentAt p time) p)
   pub leaves : target ≡ after refusal (put 0 (frameOf (p .header) dataset) before) before
-
--- ---- datasets
-
--- how many octets were converted
-abbrev pub ofConverted : Converted → Outcome
-ofConverted (converted.Octets n) = granted n
-ofConverted (converted.Refused r) = refused r
 
 -- a dataset of n octets was converted into a target, or refused; octets behind what is written stay
 pub record ConvertsTo (w : Walked) (n : ℕ) (before : List ℕ) (r : Outcome) (target : List ℕ) : Type 0 where

@@ -46,22 +46,23 @@ use Rattle.subscription_decisions.proofs.read_record.Symbol as read-record-def
 use Rattle.subscription_decisions.proofs.read_record.Symbol.{name as #read-record}
 use Rattle.subscription_decisions.proofs.read_record.Met as read-record-thm
 use Rattle.trdp.proofs.AsOfReading as AsOfReading
-use Rattle.trdp.proofs.of_reading.Symbol as of-reading-def
-use Rattle.trdp.proofs.of_reading.Symbol.{name as #of-reading}
-use Rattle.trdp.proofs.of_reading.Met as of-reading-thm
+use Rattle.boundary.proofs.of_reading.Symbol as of-reading-def
+use Rattle.boundary.proofs.of_reading.Symbol.{name as #of-reading}
+use Rattle.boundary.proofs.of_reading.Met as of-reading-thm
 use Rattle.subscriptions.proofs.Values.{subscriptionBy, readingBy}
 use Rattle.subscription.specs.Record.{freeRecord}
 use Rattle.subscription_table.specs.Table.{fits}
 use Rattle.subscription.specs.declared.Subscription.{Subscription}
 use Rattle.subscription_decisions.specs.Read.{readBy}
-use Rattle.trdp.specs.declared.Shown.{Shown}
-use Rattle.trdp.specs.Subscriptions.{Reads, ofReading}
+use Rattle.boundary.specs.declared.Shown.{Shown}
+use Rattle.boundary.specs.Subscriptions.{ofReading}
+use Rattle.trdp.specs.Subscriptions.{Reads}
 use Rattle.trdp.proofs.Values.{shownBy}
 use Rattle.trdp.proofs.Following.{slot-reads, slot-there}
 use Rattle.subscription.proofs.Subscription as X
 use Rattle.subscription.proofs.Subscription.Laws as X′
 use Rattle.subscription_decisions.proofs.Reading.Laws as Q′
-use Rattle.trdp.proofs.Shown.Laws as SH′
+use Rattle.boundary.proofs.Shown.Laws as SH′
 use Rattle.trdp.proofs.trdp_read.Key.{name as #f}
 use Rattle.trdp.proofs.trdp_read as f
 use Rattle.trdp.proofs.trdp_read.Statement as stated
@@ -155,4 +156,4 @@ trdp-read-spec 𝓤 H 𝓜 𝓖 𝓡 =
     (meets 𝓤 H (𝓖 .A) (givenOf 𝓤 H 𝓜 𝓖) (𝓜 .mem) (𝓡 .run) (tablesOf 𝓤 H 𝓜 (tables 𝓤 H 𝓜 𝓡 code.env))
     (cited 𝓤 H (AsSlotAt.G 𝓤 H (𝓖 .A) (givenOf 𝓤 H 𝓜 𝓖) (𝓜 .mem) (𝓡 .run)) 𝓜 𝓡 code.env #slot-at slot-at-def.routine code.calls-subscriptions·slot-at (slot-at-thm.met 𝓤 H 𝓜 𝓖 𝓡))
     (cited 𝓤 H (AsReadRecord.G 𝓤 H (𝓖 .A) (givenOf 𝓤 H 𝓜 𝓖) (𝓜 .mem) (𝓡 .run)) 𝓜 𝓡 code.env #read-record read-record-def.routine code.calls-subscription-decisions·read-record (read-record-thm.met 𝓤 H 𝓜 𝓖 𝓡))
-    (cited 𝓤 H (AsOfReading.G 𝓤 H (𝓖 .A) (givenOf 𝓤 H 𝓜 𝓖) (𝓜 .mem) (𝓡 .run)) 𝓜 𝓡 code.env #of-reading of-reading-def.routine code.calls-trdp·of-reading (of-reading-thm.met 𝓤 H 𝓜 𝓖 𝓡)))
+    (cited 𝓤 H (AsOfReading.G 𝓤 H (𝓖 .A) (givenOf 𝓤 H 𝓜 𝓖) (𝓜 .mem) (𝓡 .run)) 𝓜 𝓡 code.env #of-reading of-reading-def.routine code.calls-boundary·of-reading (of-reading-thm.met 𝓤 H 𝓜 𝓖 𝓡)))

@@ -55,8 +55,9 @@ use denote.Array.{Array}
 use Rattle.session_table.specs.Table.{step as mdStep, telegram as mdTelegram}
 use Rattle.packed_calls.specs.Calls.{leftBy}
 use Rattle.packed.specs.Packed.{tablesOf as unpacked}
-use Rattle.trdp.specs.declared.MdOutcome.{MdOutcome}
-use Rattle.trdp.specs.Sessions.{mdOutcomeOf, Receives as MdReceives}
+use Rattle.boundary.specs.declared.MdOutcome.{MdOutcome}
+use Rattle.boundary.specs.Sessions.{mdOutcomeOf}
+use Rattle.trdp.specs.Sessions.{Receives as MdReceives}
 use Rattle.trdp.proofs.Messages.{received}
 use Rattle.statistics.specs.declared.Statistics.{Statistics}
 use Rattle.arrival.specs.declared.Arrival.{Arrival}
@@ -65,8 +66,8 @@ use Rattle.trdp.proofs.Values.{mdOutcomeBy, octetsLent, telling}
 use Rattle.arrival.proofs.Arrival as P
 use Rattle.arrival.proofs.Arrival.Laws as P′
 use Rattle.statistics.proofs.Statistics as Z
-use Rattle.trdp.proofs.MdOutcome as MO
-use Rattle.trdp.proofs.MdOutcome.Laws as MO′
+use Rattle.boundary.proofs.MdOutcome as MO
+use Rattle.boundary.proofs.MdOutcome.Laws as MO′
 use Rattle.telegram.proofs.Family as FA
 use Rattle.telegram.proofs.Family.Laws as FA′
 use Rattle.trdp.proofs.trdp_receive_md.Key.{name as #f}

@@ -42,9 +42,9 @@ use Rattle.subscriptions.proofs.receive.Symbol as receive-def
 use Rattle.subscriptions.proofs.receive.Symbol.{name as #receive}
 use Rattle.subscriptions.proofs.receive.Met as receive-thm
 use Rattle.trdp.proofs.AsOfAnswer as AsOfAnswer
-use Rattle.trdp.proofs.of_answer.Symbol as of-answer-def
-use Rattle.trdp.proofs.of_answer.Symbol.{name as #of-answer}
-use Rattle.trdp.proofs.of_answer.Met as of-answer-thm
+use Rattle.boundary.proofs.of_answer.Symbol as of-answer-def
+use Rattle.boundary.proofs.of_answer.Symbol.{name as #of-answer}
+use Rattle.boundary.proofs.of_answer.Met as of-answer-thm
 use Rattle.subscriptions.proofs.Values.{subscriptionBy, answerBy, arrivalBy}
 use Rattle.statistics.proofs.Values.{statisticsBy}
 use Rattle.statistics.specs.declared.Statistics.{Statistics}
@@ -52,8 +52,9 @@ use Rattle.arrival.specs.declared.Arrival.{Arrival}
 use Rattle.subscription_table.specs.Table.{fits, telegram}
 use Rattle.subscription.specs.declared.Subscription.{Subscription}
 use Rattle.subscription_decisions.specs.Calls.{meaning}
-use Rattle.trdp.specs.declared.Outcome.{Outcome}
-use Rattle.trdp.specs.Subscriptions.{outcomeOf, Receives}
+use Rattle.boundary.specs.declared.Outcome.{Outcome}
+use Rattle.boundary.specs.Subscriptions.{outcomeOf}
+use Rattle.trdp.specs.Subscriptions.{Receives}
 use Rattle.trdp.proofs.Values.{outcomeBy}
 use Rattle.trdp.proofs.Following.{saidAnswer, saidRecords, saidStore, saidStatistics, receives}
 use Rattle.subscription.proofs.Subscription as X
@@ -61,7 +62,7 @@ use Rattle.subscription_decisions.proofs.Answer.Laws as N′
 use Rattle.arrival.proofs.Arrival as P
 use Rattle.arrival.proofs.Arrival.Laws as P′
 use Rattle.statistics.proofs.Statistics as Z
-use Rattle.trdp.proofs.Outcome.Laws as OC′
+use Rattle.boundary.proofs.Outcome.Laws as OC′
 use Rattle.trdp.proofs.trdp_receive_pd.Key.{name as #f}
 use Rattle.trdp.proofs.trdp_receive_pd as f
 use Rattle.trdp.proofs.trdp_receive_pd.Statement as stated
@@ -177,4 +178,4 @@ trdp-receive-pd-spec 𝓤 H 𝓜 𝓖 𝓡 =
     (tables 𝓤 H 𝓜 𝓡 code.env .C) (tables 𝓤 H 𝓜 𝓡 code.env .Λ) #f code.function (code.unfolded 𝓤 H 𝓜 𝓡)
     (meets 𝓤 H (𝓖 .A) (givenOf 𝓤 H 𝓜 𝓖) (𝓜 .mem) (𝓡 .run) (tablesOf 𝓤 H 𝓜 (tables 𝓤 H 𝓜 𝓡 code.env))
     (cited 𝓤 H (AsReceive.G 𝓤 H (𝓖 .A) (givenOf 𝓤 H 𝓜 𝓖) (𝓜 .mem) (𝓡 .run)) 𝓜 𝓡 code.env #receive receive-def.routine code.calls-subscriptions·receive (receive-thm.met 𝓤 H 𝓜 𝓖 𝓡))
-    (cited 𝓤 H (AsOfAnswer.G 𝓤 H (𝓖 .A) (givenOf 𝓤 H 𝓜 𝓖) (𝓜 .mem) (𝓡 .run)) 𝓜 𝓡 code.env #of-answer of-answer-def.routine code.calls-trdp·of-answer (of-answer-thm.met 𝓤 H 𝓜 𝓖 𝓡)))
+    (cited 𝓤 H (AsOfAnswer.G 𝓤 H (𝓖 .A) (givenOf 𝓤 H 𝓜 𝓖) (𝓜 .mem) (𝓡 .run)) 𝓜 𝓡 code.env #of-answer of-answer-def.routine code.calls-boundary·of-answer (of-answer-thm.met 𝓤 H 𝓜 𝓖 𝓡)))

@@ -42,24 +42,25 @@ use Rattle.subscriptions.proofs.subscribe.Symbol as subscribe-def
 use Rattle.subscriptions.proofs.subscribe.Symbol.{name as #subscribe}
 use Rattle.subscriptions.proofs.subscribe.Met as subscribe-thm
 use Rattle.trdp.proofs.AsOfAnswer as AsOfAnswer
-use Rattle.trdp.proofs.of_answer.Symbol as of-answer-def
-use Rattle.trdp.proofs.of_answer.Symbol.{name as #of-answer}
-use Rattle.trdp.proofs.of_answer.Met as of-answer-thm
+use Rattle.boundary.proofs.of_answer.Symbol as of-answer-def
+use Rattle.boundary.proofs.of_answer.Symbol.{name as #of-answer}
+use Rattle.boundary.proofs.of_answer.Met as of-answer-thm
 use Rattle.subscriptions.proofs.Values.{subscriptionBy, filterBy, answerBy}
 use Rattle.subscriptions.proofs.Granting.{request}
 use Rattle.subscription_table.specs.Table.{fits, subscribe}
 use Rattle.subscription.specs.declared.Subscription.{Subscription}
 use Rattle.subscription.specs.declared.Filter.{Filter}
 use Rattle.subscription_decisions.specs.Calls.{meaning}
-use Rattle.trdp.specs.declared.Outcome.{Outcome}
-use Rattle.trdp.specs.Subscriptions.{outcomeOf, Follows}
+use Rattle.boundary.specs.declared.Outcome.{Outcome}
+use Rattle.boundary.specs.Subscriptions.{outcomeOf}
+use Rattle.trdp.specs.Subscriptions.{Follows}
 use Rattle.trdp.proofs.Values.{outcomeBy}
 use Rattle.trdp.proofs.Following.{saidAnswer, saidRecords, saidStore, follows}
 use Rattle.subscription.proofs.Subscription as X
 use Rattle.subscription.proofs.Filter as F
 use Rattle.subscription.proofs.Filter.Laws as F′
 use Rattle.subscription_decisions.proofs.Answer.Laws as N′
-use Rattle.trdp.proofs.Outcome.Laws as OC′
+use Rattle.boundary.proofs.Outcome.Laws as OC′
 use Rattle.trdp.proofs.trdp_subscribe.Key.{name as #f}
 use Rattle.trdp.proofs.trdp_subscribe as f
 use Rattle.trdp.proofs.trdp_subscribe.Statement as stated
@@ -164,4 +165,4 @@ trdp-subscribe-spec 𝓤 H 𝓜 𝓖 𝓡 =
     (tables 𝓤 H 𝓜 𝓡 code.env .C) (tables 𝓤 H 𝓜 𝓡 code.env .Λ) #f code.function (code.unfolded 𝓤 H 𝓜 𝓡)
     (meets 𝓤 H (𝓖 .A) (givenOf 𝓤 H 𝓜 𝓖) (𝓜 .mem) (𝓡 .run) (tablesOf 𝓤 H 𝓜 (tables 𝓤 H 𝓜 𝓡 code.env))
     (cited 𝓤 H (AsSubscribe.G 𝓤 H (𝓖 .A) (givenOf 𝓤 H 𝓜 𝓖) (𝓜 .mem) (𝓡 .run)) 𝓜 𝓡 code.env #subscribe subscribe-def.routine code.calls-subscriptions·subscribe (subscribe-thm.met 𝓤 H 𝓜 𝓖 𝓡))
-    (cited 𝓤 H (AsOfAnswer.G 𝓤 H (𝓖 .A) (givenOf 𝓤 H 𝓜 𝓖) (𝓜 .mem) (𝓡 .run)) 𝓜 𝓡 code.env #of-answer of-answer-def.routine code.calls-trdp·of-answer (of-answer-thm.met 𝓤 H 𝓜 𝓖 𝓡)))
+    (cited 𝓤 H (AsOfAnswer.G 𝓤 H (𝓖 .A) (givenOf 𝓤 H 𝓜 𝓖) (𝓜 .mem) (𝓡 .run)) 𝓜 𝓡 code.env #of-answer of-answer-def.routine code.calls-boundary·of-answer (of-answer-thm.met 𝓤 H 𝓜 𝓖 𝓡)))

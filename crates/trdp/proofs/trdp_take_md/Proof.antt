@@ -1,7 +1,7 @@
 -- A datagram that is taken apart has its identifier and URI fields.
 use mathlib.Core.Path.{_∙_, ap}
 use native.Mathlib.Omega.{arith}
-use Rattle.trdp.specs.Wire.{noMdDatagram}
+use Rattle.boundary.specs.Wire.{noMdDatagram}
 use Rattle.trdp.proofs.Answers.{not-taken, has-header}
 use borrow.Author.Needs.{needs}
 use Rattle.trdp.proofs.trdp_take_md.Statement.{statement}

@@ -1,7 +1,7 @@
 -- Each answer has its own.
 use borrow.Author.Needs.{needs}
-use Rattle.trdp.proofs.of_written.Statement.{statement}
-use Rattle.trdp.proofs.of_written.Tie as tie
+use Rattle.boundary.proofs.of_written.Statement.{statement}
+use Rattle.boundary.proofs.of_written.Tie as tie
 
 enum-known-w : tie.Need-enum-known-w
 enum-known-w c = search needs

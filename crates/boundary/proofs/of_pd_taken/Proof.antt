@@ -1,7 +1,7 @@
 -- Each answer has its own.
 use borrow.Author.Needs.{needs}
-use Rattle.trdp.proofs.of_pd_taken.Statement.{statement}
-use Rattle.trdp.proofs.of_pd_taken.Tie as tie
+use Rattle.boundary.proofs.of_pd_taken.Statement.{statement}
+use Rattle.boundary.proofs.of_pd_taken.Tie as tie
 
 enum-known-t : tie.Need-enum-known-t
 enum-known-t c = search needs

@@ -1,7 +1,7 @@
 -- The answer and the record after it.
 use borrow.Author.Needs.{needs}
-use Rattle.trdp.proofs.of_sent.Statement.{statement}
-use Rattle.trdp.proofs.of_sent.Tie as tie
+use Rattle.boundary.proofs.of_sent.Statement.{statement}
+use Rattle.boundary.proofs.of_sent.Tie as tie
 
 of-written-requires : tie.Need-of-written-requires
 of-written-requires c κs = search needs

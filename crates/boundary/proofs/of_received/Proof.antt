@@ -4,9 +4,9 @@ use lib.IntN.{ℤ}
 use mir.Val.{toZ, ofZ}
 use mir.Syntax.{w32}
 use borrow.Author.Needs.{needs}
-use Rattle.trdp.specs.Sessions.{told}
-use Rattle.trdp.proofs.of_received.Statement.{statement}
-use Rattle.trdp.proofs.of_received.Tie as tie
+use Rattle.boundary.specs.Sessions.{told}
+use Rattle.boundary.proofs.of_received.Statement.{statement}
+use Rattle.boundary.proofs.of_received.Tie as tie
 
 enum-told : tie.Need-enum-told
 enum-told c = search needs

@@ -1,9 +1,9 @@
 -- A view, or a refusal.
 use mathlib.Core.Path.{ap}
-use Rattle.trdp.specs.Subscriptions.{isShown}
+use Rattle.boundary.specs.Subscriptions.{isShown}
 use borrow.Author.Needs.{needs}
-use Rattle.trdp.proofs.of_reading.Statement.{statement}
-use Rattle.trdp.proofs.of_reading.Tie as tie
+use Rattle.boundary.proofs.of_reading.Statement.{statement}
+use Rattle.boundary.proofs.of_reading.Tie as tie
 
 enum-known-x : tie.Need-enum-known-x
 enum-known-x c = search needs

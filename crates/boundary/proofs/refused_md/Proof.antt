@@ -1,7 +1,7 @@
 -- The number, and nothing else.
 use borrow.Author.Needs.{needs}
-use Rattle.trdp.proofs.refused_md.Statement.{statement}
-use Rattle.trdp.proofs.refused_md.Tie as tie
+use Rattle.boundary.proofs.refused_md.Statement.{statement}
+use Rattle.boundary.proofs.refused_md.Tie as tie
 
 no-md-header-requires : tie.Need-no-md-header-requires
 no-md-header-requires c κs = search needs

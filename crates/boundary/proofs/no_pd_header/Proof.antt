@@ -1,7 +1,7 @@
 -- Every field is 0.
 use borrow.Author.Needs.{needs}
-use Rattle.trdp.proofs.no_pd_header.Statement.{statement}
-use Rattle.trdp.proofs.no_pd_header.Tie as tie
+use Rattle.boundary.proofs.no_pd_header.Statement.{statement}
+use Rattle.boundary.proofs.no_pd_header.Tie as tie
 
 no-common-requires : tie.Need-no-common-requires
 no-common-requires c κs = search needs

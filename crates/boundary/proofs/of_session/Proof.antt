@@ -1,7 +1,7 @@
 -- The session, field by field.
 use borrow.Author.Needs.{needs}
-use Rattle.trdp.proofs.of_session.Statement.{statement}
-use Rattle.trdp.proofs.of_session.Tie as tie
+use Rattle.boundary.proofs.of_session.Statement.{statement}
+use Rattle.boundary.proofs.of_session.Tie as tie
 
 state-number-requires : tie.Need-state-number-requires
 state-number-requires c κs = search needs

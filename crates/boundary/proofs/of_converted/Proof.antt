@@ -1,7 +1,7 @@
 -- Each answer has its own.
 use borrow.Author.Needs.{needs}
-use Rattle.trdp.proofs.of_converted.Statement.{statement}
-use Rattle.trdp.proofs.of_converted.Tie as tie
+use Rattle.boundary.proofs.of_converted.Statement.{statement}
+use Rattle.boundary.proofs.of_converted.Tie as tie
 
 enum-known-c : tie.Need-enum-known-c
 enum-known-c c = search needs

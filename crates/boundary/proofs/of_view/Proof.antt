@@ -1,8 +1,8 @@
 -- The substitute set whole, or a part of the store.
 use borrow.Author.Needs.{needs}
 use Rattle.subscription_table.specs.Slot.{slotOctets}
-use Rattle.trdp.proofs.of_view.Statement.{statement}
-use Rattle.trdp.proofs.of_view.Tie as tie
+use Rattle.boundary.proofs.of_view.Statement.{statement}
+use Rattle.boundary.proofs.of_view.Tie as tie
 
 state-number-requires : tie.Need-state-number-requires
 state-number-requires c κs = search needs
