@@ -1,4 +1,4 @@
--- `trdp::of_answer` as a callee. Written by tools/walk.
+-- `boundary::of_answer` as a callee. Written by tools/walk.
 -- Assumes `Given`.
 use mathlib.Core.Path.{_≡_, refl}
 use mathlib.Core.List.{[], _∷_}

@@ -1,4 +1,4 @@
--- `trdp::of_reading` as a callee. Written by tools/walk.
+-- `boundary::of_reading` as a callee. Written by tools/walk.
 -- Assumes `Given`.
 use mathlib.Core.Path.{_≡_, refl}
 use Prim.Native.Nat.{ℕ, _<_}
