@@ -93,6 +93,7 @@ pub struct SessionSeen {
     pub timeout: u32,
 }
 
+// The fields of a header that was not taken apart.
 pub fn no_common() -> Common
     ensures { λ r. ⌜ r ≡ noCommon ⌝ }
 {
@@ -107,6 +108,7 @@ pub fn no_common() -> Common
     }
 }
 
+// A PD header that was not taken apart.
 pub fn no_pd_header() -> PdHeader
     ensures { λ r. ⌜ r ≡ noPdHeader ⌝ }
 {
@@ -118,6 +120,7 @@ pub fn no_pd_header() -> PdHeader
     }
 }
 
+// A PD datagram: its header, or the refusal.
 pub fn of_pd_taken(t: PdTaken) -> PdDatagram
     ensures { λ r. ⌜ r ≡ ofPdTaken t ⌝ }
 {
@@ -133,6 +136,7 @@ pub fn of_pd_taken(t: PdTaken) -> PdDatagram
     }
 }
 
+// How many octets were written, or the refusal.
 pub fn of_written(w: Written) -> Outcome
     ensures { λ r. ⌜ r ≡ ofWritten w ⌝ }
 {
@@ -148,6 +152,7 @@ pub fn of_written(w: Written) -> Outcome
     }
 }
 
+// An MD header that was not taken apart.
 pub fn no_md_header() -> MdHeader
     ensures { λ r. ⌜ r ≡ noMdHeader ⌝ }
 {
@@ -158,6 +163,7 @@ pub fn no_md_header() -> MdHeader
     }
 }
 
+// An MD datagram that was refused.
 pub fn refused_md(n: u8) -> MdDatagram
     ensures { λ r. ⌜ r ≡ noMdDatagram n ⌝ }
 {
@@ -170,6 +176,7 @@ pub fn refused_md(n: u8) -> MdDatagram
     }
 }
 
+// A sending: its octets or the refusal, and the publication.
 pub fn of_sent(s: Sent) -> Sending
     ensures { λ r. ⌜ r ≡ ofSent (s .answer) (s .publication) ⌝ }
 {
@@ -183,6 +190,7 @@ pub fn of_sent(s: Sent) -> Sending
     }
 }
 
+// How many octets were converted, or the refusal.
 pub fn of_converted(c: Converted) -> Outcome
     ensures { λ r. ⌜ r ≡ ofConverted c ⌝ }
 {
@@ -198,6 +206,7 @@ pub fn of_converted(c: Converted) -> Outcome
     }
 }
 
+// The answer of a call on subscriptions.
 pub fn of_answer(a: Answer) -> Outcome
     ensures { λ r. ⌜ r ≡ outcomeOf (meaning a) ⌝ }
 {
@@ -225,6 +234,7 @@ pub fn of_answer(a: Answer) -> Outcome
     }
 }
 
+// 0 never received, 1 valid, 2 timed out.
 pub fn state_number(s: State) -> u8
     ensures { λ r. ⌜ r ≡ stateNumber s ⌝ }
 {
@@ -260,6 +270,7 @@ pub fn of_view(v: View, k: usize) -> Shown
     }
 }
 
+// What reading slot k shows, or the refusal.
 pub fn of_reading(x: Reading, k: usize) -> Shown
     requires { ⌜ (isShown x ≡ true → k < 32) ⌝ }
     ensures { λ r. ⌜ r ≡ ofReading k x ⌝ }
@@ -276,6 +287,7 @@ pub fn of_reading(x: Reading, k: usize) -> Shown
     }
 }
 
+// The answer of a user's call on listeners and sessions.
 pub fn of_told(a: session_table::Answer) -> Outcome
     ensures { λ r. ⌜ r ≡ sessions.outcomeOf (session.meaning a) ⌝ }
 {
@@ -319,6 +331,7 @@ pub fn of_told(a: session_table::Answer) -> Outcome
     }
 }
 
+// A session as a host sees it.
 pub fn of_session(x: Session) -> SessionSeen
     ensures { λ r. ⌜ r ≡ sessions.seen x ⌝ }
 {
@@ -335,6 +348,7 @@ pub fn of_session(x: Session) -> SessionSeen
     }
 }
 
+// What an MD telegram is answered: 0 refused, 1 notified, 2 requested, 3 taken.
 pub fn told(kind: u8, number: u8, status: i32, listener: usize, slot: usize) -> MdOutcome
     ensures { λ r. ⌜ r ≡ sessions.told kind number status listener slot ⌝ }
 {
@@ -347,6 +361,7 @@ pub fn told(kind: u8, number: u8, status: i32, listener: usize, slot: usize) -> 
     }
 }
 
+// The answer to an MD telegram.
 pub fn of_received(a: session_table::Answer) -> MdOutcome
     ensures { λ r. ⌜ r ≡ sessions.mdOutcomeOf (session.meaning a) ⌝ }
 {

@@ -86,6 +86,7 @@ pub enum Sought {
     Waiting(Waits),
 }
 
+// A listener is one that is sought.
 pub fn is_listener_sought(l: Listener, w: ListenerSought, uri: &[u8]) -> bool
     ensures { λ r. ⌜ r ≡ listenerSoughtBy w (now (uri .entry)) l ⌝ }
 {
@@ -103,6 +104,7 @@ fn is_vacant(x: Session) -> bool
     session::is_free(s)
 }
 
+// A session is one that is sought.
 pub fn is_sought(x: Session, id: [u8; 16], w: Sought) -> bool
     ensures { λ r. ⌜ r ≡ soughtBy w id x ⌝ }
 {
@@ -143,6 +145,7 @@ pub fn find_session(xs: [Session; 16], id: [u8; 16], w: Sought) -> Found
     Found::Nothing
 }
 
+// A place was found.
 pub fn is_found(f: Found) -> bool
     ensures { λ r. ⌜ r ≡ isFound f ⌝ }
 {
