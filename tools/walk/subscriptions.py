@@ -10,8 +10,8 @@ use Rattle.subscription.specs.Record.{freeRecord, unsound, grantedRecord}
 use mathlib.Core.Bool.{not, cond}
 use Rattle.subscription_table.specs.Table.{fits, timeCheck, subscribe, unsubscribe, telegram}
 use Rattle.subscription.specs.declared.Subscription.{Subscription}
-use Rattle.subscription.specs.declared.Event.{Event}
-use Rattle.subscription.specs.declared.Event.the-variants.{Clock, Telegram}
+use Rattle.subscription_step.specs.declared.Event.{Event}
+use Rattle.subscription_step.specs.declared.Event.the-variants.{Clock, Telegram}
 use lib.Dec.{eqb}
 use Rattle.refusal.specs.Refusal.{firstOf}
 use Rattle.subscription_table.specs.Slot.{pdChecks, heardOf}
@@ -38,9 +38,9 @@ use Rattle.subscriptions.proofs.Viewing.{reads, not-there}
 use Rattle.subscriptions.specs.Search.{foundIn}
 use Rattle.subscription_decisions.specs.Search.{noneFound, looked}
 use Rattle.subscriptions.proofs.Searching.{Seen, goes-on, at-end, nearer, small}
-use Rattle.subscription.specs.Step.{concerns, Room as CountRoom, stepOf}
-use Rattle.subscription.specs.declared.Tally.{Tally}
-use Rattle.subscription.specs.declared.Stepped.{Stepped}
+use Rattle.subscription_step.specs.Step.{concerns, Room as CountRoom, stepOf}
+use Rattle.subscription_step.specs.declared.Tally.{Tally}
+use Rattle.subscription_step.specs.declared.Stepped.{Stepped}
 use Rattle.subscriptions.specs.Sweep.{Sweeps, nextConcerned}
 use Rattle.subscription_decisions.specs.Sweep.{noTally, storeStepped}
 use Rattle.subscription_decisions.specs.declared.Swept.the-variants.{Done, Refused as Unswept}
@@ -53,7 +53,7 @@ use Rattle.subscriptions.proofs.Granting.{request, unfit-follows, denie
 use Rattle.subscriptions.proofs.Slot.{here, away-follows, here-follows}
 use Rattle.subscriptions.proofs.Follow.{sweptAnswer, sweptRecords, sweptStore, check-follows}
 '''
-uses_proofs=''.join('use %s.%s as %s\nuse %s.%s.Laws as %s′\n'%(c,n,k,c,n,k) for c,n,k in (('Rattle.subscription.proofs','Subscription','X'),('Rattle.subscription.proofs','Event','E'),('Rattle.subscription.proofs','Tally','C'),('Rattle.subscription.proofs','Stepped','R'),('Rattle.subscription.proofs','Filter','F'),('Rattle.subscription_decisions.proofs','Swept','S'),('Rattle.subscription_decisions.proofs','Answer','N'),('Rattle.subscription_decisions.proofs','Released','L'),('Rattle.subscription_decisions.proofs','Found','D'),('Rattle.arrival.proofs','Arrival','P'),('Rattle.subscription_decisions.proofs','Reading','Q'),('Rattle.statistics.proofs','Statistics','Z'),('Rattle.telegram.proofs','Family','Y')))
+uses_proofs=''.join('use %s.%s as %s\nuse %s.%s.Laws as %s′\n'%(c,n,k,c,n,k) for c,n,k in (('Rattle.subscription.proofs','Subscription','X'),('Rattle.subscription_step.proofs','Event','E'),('Rattle.subscription_step.proofs','Tally','C'),('Rattle.subscription_step.proofs','Stepped','R'),('Rattle.subscription.proofs','Filter','F'),('Rattle.subscription_decisions.proofs','Swept','S'),('Rattle.subscription_decisions.proofs','Answer','N'),('Rattle.subscription_decisions.proofs','Released','L'),('Rattle.subscription_decisions.proofs','Found','D'),('Rattle.arrival.proofs','Arrival','P'),('Rattle.subscription_decisions.proofs','Reading','Q'),('Rattle.statistics.proofs','Statistics','Z'),('Rattle.telegram.proofs','Family','Y')))
 L,ST,D,EV,TIME=('l','slice','Subscription'),('st','slice','u8'),('d','shr','u8'),('ev','plain','Event'),('time','plain','u64')
 K,N1,N2=('k','plain','usize'),('n₁','plain','usize'),('n₂','plain','usize')
 T,F,C,I=('t','shr','Subscription'),('fl','plain','Filter'),('c','plain','Found'),('i','plain','usize')

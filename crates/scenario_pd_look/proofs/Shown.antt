@@ -12,7 +12,7 @@ use lib.Seq.{getD-take}
 use Rattle.answer.specs.Answer.{octets, refused as refusedWords}
 use Rattle.subscription.specs.declared.Subscription.{Subscription}
 use Rattle.subscription.specs.Record.{freeRecord}
-use Rattle.subscription.specs.Step.{shownAt}
+use Rattle.subscription_step.specs.Step.{shownAt}
 use Rattle.subscription_table.specs.Table.{Answer, granted, freed, delivered, marked, shows, refused, read, fits, step}
 use Rattle.subscription_decisions.specs.declared.View.{View}
 use Rattle.subscription_decisions.specs.declared.Reading.{Reading}

@@ -45,7 +45,7 @@ fn read_slot<'a>(
             let state = v.state;
             let r = record_at(records, k);
             let p = scenario_pd_words::put_state(out, at, state);
-            answer::octets(out, p, subscription::show(r, k, store, substitute))
+            answer::octets(out, p, subscription_step::show(r, k, store, substitute))
         }
         Reading::Refused(n) => answer::refused(out, at, n),
     }

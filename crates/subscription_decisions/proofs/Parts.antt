@@ -11,9 +11,9 @@ use borrow.Author.Tests.{leb-true}
 use Rattle.octets.specs.Octets.{put}
 use Rattle.octets.proofs.Puts.{put-start}
 use Rattle.subscription.specs.Record.{recordTakes, recordDue, zeroes}
-use Rattle.subscription.specs.Step.{partAfter}
-use Rattle.subscription.specs.declared.Event.{Event}
-use Rattle.subscription.specs.declared.Event.the-variants.{Telegram, Clock}
+use Rattle.subscription_step.specs.Step.{partAfter}
+use Rattle.subscription_step.specs.declared.Event.{Event}
+use Rattle.subscription_step.specs.declared.Event.the-variants.{Telegram, Clock}
 use Rattle.subscription.specs.declared.Subscription.{Subscription}
 
 cleared-length : (b : Bool) (p : List ℕ) → length (cond b (replicate (length p) 0) p) ≡ length p

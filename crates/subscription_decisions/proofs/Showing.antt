@@ -14,7 +14,7 @@ use Rattle.subscription_table.specs.Slot.{slotOctets}
 use Rattle.subscription_table.specs.Table.{fits}
 use Rattle.subscription.specs.declared.Subscription.{Subscription}
 use Rattle.subscription_table.proofs.Lent.{fits-means}
-use Rattle.subscription.specs.Step.{storedAt, shownAt}
+use Rattle.subscription_step.specs.Step.{storedAt, shownAt}
 use Rattle.subscription_decisions.specs.declared.View.{View}
 use Rattle.subscription_decisions.specs.declared.Reading.{Reading}
 use Rattle.subscription_decisions.specs.declared.Reading.the-variants.{Shows, Refused}

@@ -1,11 +1,11 @@
 -- An event at one slot of a table: its part of the store, and the tally before the first slot.
 use Prim.Native.Nat.{ℕ, _*_}
 use mathlib.Core.List.{List}
-use Rattle.subscription.specs.declared.Event.{Event}
+use Rattle.subscription_step.specs.declared.Event.{Event}
 use Rattle.subscription.specs.declared.Subscription.{Subscription}
-use Rattle.subscription.specs.declared.Tally.{Tally}
+use Rattle.subscription_step.specs.declared.Tally.{Tally}
 use Rattle.octets.specs.Octets.{part, put}
-use Rattle.subscription.specs.Step.{partAfter}
+use Rattle.subscription_step.specs.Step.{partAfter}
 use Rattle.subscription_table.specs.Slot.{slotOctets}
 
 abbrev pub noTally : Tally

@@ -1,13 +1,13 @@
 // What each call over the subscription table decides of a slot, by value; the records and the store are walked above.
 use arrival::Arrival;
 use pd::PdTaken;
-use subscription::Event;
 use subscription::Filter;
 use subscription::Heard;
 use subscription::State;
-use subscription::Stepped;
 use subscription::Subscription;
-use subscription::Tally;
+use subscription_step::Event;
+use subscription_step::Stepped;
+use subscription_step::Tally;
 ghost use mathlib.Core.Path.{_≡_};
 ghost use mathlib.Core.Bool.{cond, not};
 ghost use Prim.Native.Nat.{_+_, _*_, _≤_};
@@ -16,9 +16,9 @@ ghost use lib.ListN.{length};
 ghost use Rattle.refusal.specs.Refusal.{firstOf};
 ghost use Rattle.subscription.specs.Record.{unsound, grantedRecord};
 ghost use Rattle.subscription_table.specs.Slot.{pdChecks, heardOf};
-ghost use Rattle.subscription.specs.Step.{concerns, Room, stepOf};
+ghost use Rattle.subscription_step.specs.Step.{concerns, Room, stepOf};
 ghost use Rattle.subscription_table.specs.Table.{fits};
-ghost use Rattle.subscription.specs.declared.Event.the-variants.{Clock, Telegram};
+ghost use Rattle.subscription_step.specs.declared.Event.the-variants.{Clock, Telegram};
 ghost use Rattle.subscription_decisions.specs.Calls.{meaning, markedBy, deliveredBy, endOf};
 ghost use Rattle.subscription_decisions.specs.Named.{away, noSlot, cleared, releasedOf, releasedStore, decided, denied};
 ghost use Rattle.subscription_decisions.specs.Read.{readBy, shown, octetsOf};
@@ -118,7 +118,7 @@ pub fn unswept() -> Swept
 pub fn bound(end: usize, r: Subscription, ev: Event, i: usize) -> usize
     ensures { λ q. ⌜ q ≡ cond (concerns ev r) i end ⌝ }
 {
-    if subscription::is_concerned(r, ev) {
+    if subscription_step::is_concerned(r, ev) {
         return i;
     }
     end
@@ -138,7 +138,7 @@ pub fn step_at(
 {
     let from = k * 1432;
     let to = from + 1432;
-    subscription::step(r, c, ev, &mut store[from..to], dataset)
+    subscription_step::step(r, c, ev, &mut store[from..to], dataset)
 }
 
 // The clock, as an event.
@@ -409,5 +409,5 @@ pub fn show_record<'a>(
     let Reading::Shows(_) = q else {
         return &store[..0];
     };
-    subscription::show(r, k, store, substitute)
+    subscription_step::show(r, k, store, substitute)
 }

@@ -7,11 +7,11 @@ use Prim.Native.Nat.{ℕ, _≤_}
 use lib.ListN.{length, drop, replicate}
 use borrow.Author.Tests.{le-leb}
 use Rattle.octets.proofs.Puts.{put-start}
-use Rattle.subscription.specs.declared.Event.the-variants.{Telegram, Clock}
+use Rattle.subscription_step.specs.declared.Event.the-variants.{Telegram, Clock}
 use Rattle.subscription.specs.declared.Heard.{Heard}
 use Rattle.subscription.specs.Record.{recordTaken, recordMarked, zeroes}
 use Rattle.subscription_table.specs.Slot.{slotOctets, Cell, takes, taken, deliver, due, marked, mark}
-use Rattle.subscription.specs.Step.{recordAfter, partAfter}
+use Rattle.subscription_step.specs.Step.{recordAfter, partAfter}
 
 -- a telegram that a part can hold, and the clock, step a slot as the rules say
 pub telegram-steps : (h : Heard) (dataset : List ℕ) (x : Cell) → length dataset ≤ slotOctets

@@ -18,7 +18,7 @@ use Rattle.arrival.specs.Arrival.{topographyCheck}
 use Rattle.subscription_table.specs.Slot.{refusal, passed, judged, pdChecks, heardOf}
 use Rattle.subscription_table.specs.Table.{fits, telegram, deliveredTo, slots, step}
 use Rattle.arrival.specs.declared.Arrival.{Arrival}
-use Rattle.subscription.specs.declared.Event.the-variants.{Telegram}
+use Rattle.subscription_step.specs.declared.Event.the-variants.{Telegram}
 use Rattle.subscription.specs.declared.Heard.{Heard}
 use Rattle.subscription.specs.declared.Subscription.{Subscription}
 use Rattle.subscription_table.proofs.Flat.{records-parts, store-parts}

@@ -19,7 +19,7 @@ use denote.Triple.Statement.{Contract, Triple}
 use denote.Triple.Clauses.{ensured, lasts}
 use Rattle.walks.proofs.Steps.{Call, none-lent}
 use Rattle.subscriptions.proofs.Values.{tallyBy}
-use Rattle.subscription.specs.declared.Tally.{Tally}
+use Rattle.subscription_step.specs.declared.Tally.{Tally}
 use Rattle.subscription_decisions.specs.Sweep.{noTally}
 use Rattle.subscription_decisions.proofs.begin as callee
 use Rattle.subscription_decisions.proofs.begin.Symbol.{name as #g}

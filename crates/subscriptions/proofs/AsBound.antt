@@ -25,8 +25,8 @@ use Rattle.walks.proofs.Steps.{Call, none-lent}
 use Rattle.subscriptions.proofs.Values.{subscriptionBy, eventBy}
 use mathlib.Core.Bool.{cond}
 use Rattle.subscription.specs.declared.Subscription.{Subscription}
-use Rattle.subscription.specs.declared.Event.{Event}
-use Rattle.subscription.specs.Step.{concerns}
+use Rattle.subscription_step.specs.declared.Event.{Event}
+use Rattle.subscription_step.specs.Step.{concerns}
 use Rattle.subscription_decisions.proofs.bound as callee
 use Rattle.subscription_decisions.proofs.bound.Symbol.{name as #g}
 

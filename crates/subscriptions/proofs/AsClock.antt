@@ -23,8 +23,8 @@ use denote.Triple.Clauses.{ensured, lasts}
 use Rattle.walks.proofs.ByValue.{unsignedInt}
 use Rattle.walks.proofs.Steps.{Call, none-lent}
 use Rattle.subscriptions.proofs.Values.{eventBy}
-use Rattle.subscription.specs.declared.Event.{Event}
-use Rattle.subscription.specs.declared.Event.the-variants.{Clock}
+use Rattle.subscription_step.specs.declared.Event.{Event}
+use Rattle.subscription_step.specs.declared.Event.the-variants.{Clock}
 use Rattle.subscription_decisions.proofs.clock as callee
 use Rattle.subscription_decisions.proofs.clock.Symbol.{name as #g}
 

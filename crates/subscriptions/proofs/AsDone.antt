@@ -21,7 +21,7 @@ use denote.Triple.Clauses.{ensured, lasts}
 use Rattle.walks.proofs.Steps.{Call, none-lent}
 use Rattle.subscriptions.proofs.Values.{tallyBy, sweptBy}
 use Rattle.subscription_decisions.specs.declared.Swept.{Swept}
-use Rattle.subscription.specs.declared.Tally.{Tally}
+use Rattle.subscription_step.specs.declared.Tally.{Tally}
 use Rattle.subscription_decisions.specs.declared.Swept.the-variants.{Done}
 use Rattle.subscription_decisions.proofs.done as callee
 use Rattle.subscription_decisions.proofs.done.Symbol.{name as #g}

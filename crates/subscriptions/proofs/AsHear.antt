@@ -27,8 +27,8 @@ use denote.Triple.Walked.{says}
 use Rattle.walks.proofs.ByValue.{unsignedInt}
 use Rattle.walks.proofs.Steps.{Call, shr-lent}
 use Rattle.subscriptions.proofs.Values.{eventBy, arrivalBy}
-use Rattle.subscription.specs.declared.Event.{Event}
-use Rattle.subscription.specs.declared.Event.the-variants.{Telegram}
+use Rattle.subscription_step.specs.declared.Event.{Event}
+use Rattle.subscription_step.specs.declared.Event.the-variants.{Telegram}
 use Rattle.subscription_table.specs.Slot.{heardOf}
 use Rattle.arrival.specs.declared.Arrival.{Arrival}
 use Rattle.subscription_decisions.proofs.hear as callee

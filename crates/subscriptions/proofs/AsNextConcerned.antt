@@ -26,7 +26,7 @@ use Rattle.walks.proofs.ByValue.{unsignedInt}
 use Rattle.walks.proofs.Steps.{Call, shr-lent}
 use Rattle.subscriptions.proofs.Values.{subscriptionBy, eventBy}
 use Rattle.subscription.specs.declared.Subscription.{Subscription}
-use Rattle.subscription.specs.declared.Event.{Event}
+use Rattle.subscription_step.specs.declared.Event.{Event}
 use Rattle.subscriptions.specs.Sweep.{nextConcerned}
 use Rattle.subscriptions.proofs.next_concerned as callee
 use Rattle.subscriptions.proofs.next_concerned.Symbol.{name as #g}

@@ -29,10 +29,10 @@ use Rattle.walks.proofs.ByValue.{unsignedInt}
 use Rattle.walks.proofs.Steps.{Call, both-lent, slice-lent, shr-lent, pair-is}
 use Rattle.subscriptions.proofs.Values.{subscriptionBy, eventBy, tallyBy, steppedBy}
 use Rattle.subscription.specs.declared.Subscription.{Subscription}
-use Rattle.subscription.specs.declared.Event.{Event}
-use Rattle.subscription.specs.Step.{Room as CountRoom, stepOf}
-use Rattle.subscription.specs.declared.Tally.{Tally}
-use Rattle.subscription.specs.declared.Stepped.{Stepped}
+use Rattle.subscription_step.specs.declared.Event.{Event}
+use Rattle.subscription_step.specs.Step.{Room as CountRoom, stepOf}
+use Rattle.subscription_step.specs.declared.Tally.{Tally}
+use Rattle.subscription_step.specs.declared.Stepped.{Stepped}
 use Rattle.subscription_decisions.specs.Sweep.{storeStepped}
 use Rattle.subscription_decisions.proofs.step_at as callee
 use Rattle.subscription_decisions.proofs.step_at.Symbol.{name as #g}

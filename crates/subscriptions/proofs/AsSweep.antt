@@ -27,7 +27,7 @@ use Rattle.walks.proofs.ByValue.{unsignedInt}
 use Rattle.walks.proofs.Steps.{Call, both-lent, slice-lent, shr-lent, pair-is}
 use Rattle.subscriptions.proofs.Values.{subscriptionBy, eventBy, sweptBy}
 use Rattle.subscription.specs.declared.Subscription.{Subscription}
-use Rattle.subscription.specs.declared.Event.{Event}
+use Rattle.subscription_step.specs.declared.Event.{Event}
 use Rattle.subscription_decisions.specs.declared.Swept.{Swept}
 use Rattle.subscriptions.specs.Sweep.{Sweeps}
 use Rattle.subscriptions.proofs.Follow.{sweptAnswer, sweptRecords, sweptStore}

@@ -13,15 +13,15 @@ use borrow.Author.Tests.{le-leb, lt-ltb}
 use Rattle.tables.specs.Lists.{count, any}
 use Rattle.subscription.specs.Record.{recordWants, recordTakes, recordDue}
 use Rattle.subscription_table.specs.Slot.{Cell, Judged, judged, passed, slotOctets, wants, takes, deliver, due, mark}
-use Rattle.subscription.specs.Step.{recordAfter, partAfter, changes, reaches, one, tallied}
+use Rattle.subscription_step.specs.Step.{recordAfter, partAfter, changes, reaches, one, tallied}
 use Rattle.subscription_table.specs.Table as table
 use Rattle.subscription_table.specs.Table.{Call, telegram, timeCheck, deliveredTo, parts, records, store, slots, fits, step}
 use Rattle.arrival.specs.declared.Arrival.{Arrival}
-use Rattle.subscription.specs.declared.Event.{Event}
-use Rattle.subscription.specs.declared.Event.the-variants.{Telegram, Clock}
+use Rattle.subscription_step.specs.declared.Event.{Event}
+use Rattle.subscription_step.specs.declared.Event.the-variants.{Telegram, Clock}
 use Rattle.subscription.specs.declared.Heard.{Heard}
 use Rattle.subscription.specs.declared.Subscription.{Subscription}
-use Rattle.subscription.specs.declared.Tally.{Tally}
+use Rattle.subscription_step.specs.declared.Tally.{Tally}
 use Rattle.subscription_table.proofs.Fitting.{judged-fits}
 use Rattle.subscription_table.proofs.Lent.{fits-means}
 use Rattle.subscription_table.proofs.Stepping.{telegram-steps, clock-steps}

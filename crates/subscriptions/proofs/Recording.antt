@@ -13,7 +13,7 @@ use Rattle.arrival.specs.declared.Arrival.{Arrival}
 use Rattle.statistics.specs.declared.Statistics.{Statistics}
 use Rattle.statistics.specs.Statistics.{added}
 use Rattle.subscription_table.specs.Slot.{pdChecks, heardOf}
-use Rattle.subscription.specs.declared.Event.the-variants.{Telegram}
+use Rattle.subscription_step.specs.declared.Event.the-variants.{Telegram}
 use Rattle.subscription_table.specs.Table as table
 use Rattle.subscription_table.specs.Table.{telegram, fits, step}
 use Rattle.subscription.specs.declared.Subscription.{Subscription}

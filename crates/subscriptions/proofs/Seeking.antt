@@ -11,8 +11,8 @@ use lib.ListN.{length, take, drop, getD, length-take, drop-of-length-le}
 use lib.Seq.{drop-cons, getD-take, take-length, length-take-le}
 use borrow.Author.Tests.{ltb-true, ltb-false}
 use Rattle.subscription.specs.Record.{freeRecord}
-use Rattle.subscription.specs.Step.{concerns}
-use Rattle.subscription.specs.declared.Event.{Event}
+use Rattle.subscription_step.specs.Step.{concerns}
+use Rattle.subscription_step.specs.declared.Event.{Event}
 use Rattle.subscription.specs.declared.Subscription.{Subscription}
 use Rattle.subscriptions.specs.Sweep.{seek, nextConcerned}
 

@@ -14,13 +14,13 @@ use Rattle.octets.specs.Octets.{part, put}
 use Rattle.octets.proofs.Parts.{part-length, put-mid}
 use Rattle.subscription.specs.Record.{freeRecord}
 use Rattle.subscription_table.specs.Slot.{slotOctets}
-use Rattle.subscription.specs.Step.{recordAfter, partAfter, changes, reaches, concerns, tallied, Room}
+use Rattle.subscription_step.specs.Step.{recordAfter, partAfter, changes, reaches, concerns, tallied, Room}
 use Rattle.subscription_table.specs.Table.{fits}
-use Rattle.subscription.specs.declared.Event.{Event}
+use Rattle.subscription_step.specs.declared.Event.{Event}
 use Rattle.subscription.specs.declared.Subscription.{Subscription}
-use Rattle.subscription.specs.declared.Tally.{Tally}
+use Rattle.subscription_step.specs.declared.Tally.{Tally}
 use Rattle.subscription_table.proofs.Lent.{fits-means}
-use Rattle.subscription.proofs.Stepping.{one-small, record-stays, part-stays, tally-stays}
+use Rattle.subscription_step.proofs.Stepping.{one-small, record-stays, part-stays, tally-stays}
 use Rattle.subscriptions.specs.Sweep.{storeAfter, tallyAfter, nextConcerned, Sweeps}
 use Rattle.subscription_decisions.specs.Sweep.{noTally, storeStepped}
 use Rattle.subscription_decisions.specs.declared.Swept.the-variants.{Done, Refused}

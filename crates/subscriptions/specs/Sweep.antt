@@ -4,10 +4,10 @@ use mathlib.Core.Path.{_≡_}
 use mathlib.Core.List.{List, [], _∷_, _++_, map}
 use mathlib.Core.Bool.{cond}
 use lib.ListN.{length, take, drop}
-use Rattle.subscription.specs.declared.Event.{Event}
+use Rattle.subscription_step.specs.declared.Event.{Event}
 use Rattle.subscription.specs.declared.Subscription.{Subscription}
-use Rattle.subscription.specs.declared.Tally.{Tally}
-use Rattle.subscription.specs.Step.{concerns, recordAfter, partAfter, tallied}
+use Rattle.subscription_step.specs.declared.Tally.{Tally}
+use Rattle.subscription_step.specs.Step.{concerns, recordAfter, partAfter, tallied}
 use Rattle.subscription_table.specs.Slot.{slotOctets}
 use Rattle.subscription_table.specs.Table.{fits}
 use Rattle.subscription_decisions.specs.declared.Swept.{Swept}

@@ -1,13 +1,13 @@
 // The subscription table over lent memory: records, and a store of 1432 octets for each.
 use arrival::Arrival;
 use statistics::Statistics;
-use subscription::Event;
 use subscription::Filter;
 use subscription::Subscription;
 use subscription_decisions::Answer;
 use subscription_decisions::Found;
 use subscription_decisions::Reading;
 use subscription_decisions::Swept;
+use subscription_step::Event;
 use telegram::Family;
 ghost use mathlib.Core.Path.{_≡_};
 ghost use lib.ListN.{getD};

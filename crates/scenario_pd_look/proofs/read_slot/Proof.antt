@@ -5,7 +5,7 @@ use Prim.Native.Nat.{ℕ}
 use Rattle.answer.proofs.Rooms.{_⨟_, pieces}
 use Rattle.answer.specs.Answer.{octets}
 use Rattle.subscription.specs.declared.Subscription.{Subscription}
-use Rattle.subscription.specs.Step.{shownAt}
+use Rattle.subscription_step.specs.Step.{shownAt}
 use Rattle.scenario_pd_words.specs.Words.{stateWords}
 use Rattle.scenario_pd_look.proofs.Shown.{words-shown, words-refused}
 use borrow.Author.Needs.{needs}

@@ -8,7 +8,7 @@ use borrow.Author.Needs.{needs}
 use Rattle.octets.specs.Octets.{part, put}
 use Rattle.octets.proofs.Parts.{part-length, put-mid}
 use Rattle.subscription_table.specs.Slot.{slotOctets}
-use Rattle.subscription.specs.Step.{partAfter}
+use Rattle.subscription_step.specs.Step.{partAfter}
 use Rattle.subscription_decisions.proofs.Parts.{after-length}
 use Rattle.subscription_decisions.proofs.step_at.Statement.{statement}
 use Rattle.subscription_decisions.proofs.step_at.Tie as tie

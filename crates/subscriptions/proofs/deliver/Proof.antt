@@ -78,7 +78,7 @@ use Rattle.subscriptions.proofs.Values.{subscriptionBy, eventBy, sweptB
 use mathlib.Core.Bool.{not}
 use Rattle.subscription_table.specs.Table.{fits, telegram}
 use Rattle.subscription.specs.declared.Subscription.{Subscription}
-use Rattle.subscription.specs.declared.Event.the-variants.{Telegram}
+use Rattle.subscription_step.specs.declared.Event.the-variants.{Telegram}
 use lib.Dec.{eqb}
 use Rattle.refusal.specs.Refusal.{firstOf}
 use Rattle.subscription_table.specs.Slot.{pdChecks, heardOf}
@@ -92,9 +92,9 @@ use Rattle.subscription_decisions.specs.Named.{noSlot}
 use Rattle.subscriptions.proofs.Granting.{unfit-follows}
 use Rattle.subscriptions.proofs.Follow.{sweptAnswer, sweptRecords, sweptStore}
 use Rattle.subscription.proofs.Subscription as X
-use Rattle.subscription.proofs.Event.Laws as E′
-use Rattle.subscription.proofs.Tally as C
-use Rattle.subscription.proofs.Stepped as R
+use Rattle.subscription_step.proofs.Event.Laws as E′
+use Rattle.subscription_step.proofs.Tally as C
+use Rattle.subscription_step.proofs.Stepped as R
 use Rattle.subscription_decisions.proofs.Swept.Laws as S′
 use Rattle.subscription_decisions.proofs.Answer.Laws as N′
 use Rattle.arrival.proofs.Arrival as P

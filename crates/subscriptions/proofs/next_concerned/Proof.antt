@@ -50,16 +50,16 @@ use Rattle.subscription.specs.Record.{freeRecord}
 use mathlib.Core.Bool.{cond}
 use Rattle.subscription_table.specs.Table.{fits}
 use Rattle.subscription.specs.declared.Subscription.{Subscription}
-use Rattle.subscription.specs.declared.Event.{Event}
-use Rattle.subscription.specs.Step.{concerns}
+use Rattle.subscription_step.specs.declared.Event.{Event}
+use Rattle.subscription_step.specs.Step.{concerns}
 use Rattle.subscriptions.specs.Sweep.{nextConcerned}
 use Rattle.subscriptions.proofs.Seeking.{Sought, sought, seeks-on, found, nearer-end, below}
 use Rattle.subscription.proofs.Subscription as X
 use Rattle.subscription.proofs.Subscription.Laws as X′
-use Rattle.subscription.proofs.Event as E
-use Rattle.subscription.proofs.Event.Laws as E′
-use Rattle.subscription.proofs.Tally as C
-use Rattle.subscription.proofs.Stepped as R
+use Rattle.subscription_step.proofs.Event as E
+use Rattle.subscription_step.proofs.Event.Laws as E′
+use Rattle.subscription_step.proofs.Tally as C
+use Rattle.subscription_step.proofs.Stepped as R
 use Rattle.subscriptions.proofs.next_concerned.Key.{name as #f}
 use Rattle.subscriptions.proofs.next_concerned as f
 use Rattle.subscriptions.proofs.next_concerned.Statement as stated

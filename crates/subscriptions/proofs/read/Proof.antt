@@ -55,8 +55,8 @@ use Rattle.subscription_decisions.specs.Read.{readBy}
 use Rattle.subscriptions.proofs.Viewing.{reads}
 use Rattle.subscription.proofs.Subscription as X
 use Rattle.subscription.proofs.Subscription.Laws as X′
-use Rattle.subscription.proofs.Tally as C
-use Rattle.subscription.proofs.Stepped as R
+use Rattle.subscription_step.proofs.Tally as C
+use Rattle.subscription_step.proofs.Stepped as R
 use Rattle.subscription_decisions.proofs.Reading.Laws as Q′
 use Rattle.subscriptions.proofs.read.Key.{name as #f}
 use Rattle.subscriptions.proofs.read as f

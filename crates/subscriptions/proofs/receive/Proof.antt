@@ -69,8 +69,8 @@ use Rattle.subscriptions.proofs.Recording.{deliveredAnswer, deliveredRe
 use Rattle.subscription_decisions.specs.declared.Answer.{Answer}
 use Rattle.subscription_decisions.specs.Calls.{meaning}
 use Rattle.subscription.proofs.Subscription as X
-use Rattle.subscription.proofs.Tally as C
-use Rattle.subscription.proofs.Stepped as R
+use Rattle.subscription_step.proofs.Tally as C
+use Rattle.subscription_step.proofs.Stepped as R
 use Rattle.subscription_decisions.proofs.Answer.Laws as N′
 use Rattle.arrival.proofs.Arrival as P
 use Rattle.arrival.proofs.Arrival.Laws as P′

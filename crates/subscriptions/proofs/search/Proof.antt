@@ -60,8 +60,8 @@ use Rattle.subscription_decisions.specs.Search.{noneFound, looked}
 use Rattle.subscriptions.proofs.Searching.{Seen, goes-on, at-end, nearer, small}
 use Rattle.subscription.proofs.Subscription as X
 use Rattle.subscription.proofs.Subscription.Laws as X′
-use Rattle.subscription.proofs.Tally as C
-use Rattle.subscription.proofs.Stepped as R
+use Rattle.subscription_step.proofs.Tally as C
+use Rattle.subscription_step.proofs.Stepped as R
 use Rattle.subscription.proofs.Filter as F
 use Rattle.subscription.proofs.Filter.Laws as F′
 use Rattle.subscription_decisions.proofs.Found.Laws as D′

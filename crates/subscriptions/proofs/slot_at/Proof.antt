@@ -52,8 +52,8 @@ use Rattle.subscription.specs.declared.Subscription.{Subscription}
 use Rattle.subscriptions.proofs.Viewing.{not-there}
 use Rattle.subscription.proofs.Subscription as X
 use Rattle.subscription.proofs.Subscription.Laws as X′
-use Rattle.subscription.proofs.Tally as C
-use Rattle.subscription.proofs.Stepped as R
+use Rattle.subscription_step.proofs.Tally as C
+use Rattle.subscription_step.proofs.Stepped as R
 use Rattle.subscriptions.proofs.slot_at.Key.{name as #f}
 use Rattle.subscriptions.proofs.slot_at as f
 use Rattle.subscriptions.proofs.slot_at.Statement as stated

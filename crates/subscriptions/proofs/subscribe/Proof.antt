@@ -78,8 +78,8 @@ use Rattle.subscription_decisions.specs.Named.{noSlot, cleared, decided, denied
 use Rattle.subscriptions.proofs.Granting.{request, unfit-follows, denied-follows, slot-there, granted-follows}
 use Rattle.subscription.proofs.Subscription as X
 use Rattle.subscription.proofs.Subscription.Laws as X′
-use Rattle.subscription.proofs.Tally as C
-use Rattle.subscription.proofs.Stepped as R
+use Rattle.subscription_step.proofs.Tally as C
+use Rattle.subscription_step.proofs.Stepped as R
 use Rattle.subscription.proofs.Filter as F
 use Rattle.subscription.proofs.Filter.Laws as F′
 use Rattle.subscription_decisions.proofs.Answer.Laws as N′

@@ -71,23 +71,23 @@ use Rattle.subscription.specs.Record.{freeRecord}
 use mathlib.Core.Bool.{not}
 use Rattle.subscription_table.specs.Table.{fits}
 use Rattle.subscription.specs.declared.Subscription.{Subscription}
-use Rattle.subscription.specs.declared.Event.{Event}
+use Rattle.subscription_step.specs.declared.Event.{Event}
 use Rattle.subscription_decisions.specs.declared.Swept.{Swept}
 use Rattle.subscriptions.proofs.Searching.{goes-on, nearer, small}
-use Rattle.subscription.specs.Step.{stepOf}
-use Rattle.subscription.specs.declared.Tally.{Tally}
+use Rattle.subscription_step.specs.Step.{stepOf}
+use Rattle.subscription_step.specs.declared.Tally.{Tally}
 use Rattle.subscriptions.specs.Sweep.{Sweeps, nextConcerned}
 use Rattle.subscription_decisions.specs.Sweep.{noTally, storeStepped}
 use Rattle.subscription_decisions.specs.declared.Swept.the-variants.{Done, Refused as Unswept}
 use Rattle.subscriptions.proofs.Slots as slots
 use Rattle.subscription.proofs.Subscription as X
 use Rattle.subscription.proofs.Subscription.Laws as X′
-use Rattle.subscription.proofs.Event as E
-use Rattle.subscription.proofs.Event.Laws as E′
-use Rattle.subscription.proofs.Tally as C
-use Rattle.subscription.proofs.Tally.Laws as C′
-use Rattle.subscription.proofs.Stepped as R
-use Rattle.subscription.proofs.Stepped.Laws as R′
+use Rattle.subscription_step.proofs.Event as E
+use Rattle.subscription_step.proofs.Event.Laws as E′
+use Rattle.subscription_step.proofs.Tally as C
+use Rattle.subscription_step.proofs.Tally.Laws as C′
+use Rattle.subscription_step.proofs.Stepped as R
+use Rattle.subscription_step.proofs.Stepped.Laws as R′
 use Rattle.subscription_decisions.proofs.Swept.Laws as S′
 use Rattle.subscriptions.proofs.sweep.Key.{name as #f}
 use Rattle.subscriptions.proofs.sweep as f

@@ -53,15 +53,15 @@ use Rattle.subscription_decisions.proofs.marked.Met as marked-thm
 use Rattle.subscriptions.proofs.Values.{subscriptionBy, eventBy, sweptBy, answerBy}
 use Rattle.subscription_table.specs.Table.{fits, timeCheck}
 use Rattle.subscription.specs.declared.Subscription.{Subscription}
-use Rattle.subscription.specs.declared.Event.the-variants.{Clock}
+use Rattle.subscription_step.specs.declared.Event.the-variants.{Clock}
 use Rattle.subscription_decisions.specs.declared.Answer.{Answer}
 use Rattle.subscriptions.specs.Calls.{Follows}
 use Rattle.subscription_decisions.specs.Calls.{meaning, markedBy}
 use Rattle.subscriptions.proofs.Follow.{sweptAnswer, sweptRecords, sweptStore, check-follows}
 use Rattle.subscription.proofs.Subscription as X
-use Rattle.subscription.proofs.Event.Laws as E′
-use Rattle.subscription.proofs.Tally as C
-use Rattle.subscription.proofs.Stepped as R
+use Rattle.subscription_step.proofs.Event.Laws as E′
+use Rattle.subscription_step.proofs.Tally as C
+use Rattle.subscription_step.proofs.Stepped as R
 use Rattle.subscription_decisions.proofs.Swept.Laws as S′
 use Rattle.subscription_decisions.proofs.Answer.Laws as N′
 use Rattle.subscriptions.proofs.time_check.Key.{name as #f}

@@ -63,8 +63,8 @@ use Rattle.subscription_decisions.specs.Named.{away, noSlot, releasedOf, releas
 use Rattle.subscriptions.proofs.Slot.{here, away-follows, here-follows}
 use Rattle.subscription.proofs.Subscription as X
 use Rattle.subscription.proofs.Subscription.Laws as X′
-use Rattle.subscription.proofs.Tally as C
-use Rattle.subscription.proofs.Stepped as R
+use Rattle.subscription_step.proofs.Tally as C
+use Rattle.subscription_step.proofs.Stepped as R
 use Rattle.subscription_decisions.proofs.Answer.Laws as N′
 use Rattle.subscription_decisions.proofs.Released as L
 use Rattle.subscription_decisions.proofs.Released.Laws as L′

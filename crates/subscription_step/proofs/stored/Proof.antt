@@ -5,8 +5,8 @@ use native.Mathlib.Nat.{add-sub-cancel-left}
 use lib.ListN.{length}
 use borrow.Author.Tests.{le-leb, lt-leb}
 use borrow.Author.Needs.{needs}
-use Rattle.subscription.proofs.stored.Statement.{statement}
-use Rattle.subscription.proofs.stored.Tie as tie
+use Rattle.subscription_step.proofs.stored.Statement.{statement}
+use Rattle.subscription_step.proofs.stored.Tie as tie
 
 slice-aggregate-result : tie.Need-slice-aggregate-result
 slice-aggregate-result c = search needs

@@ -1,7 +1,7 @@
 -- Each event has its own test.
 use borrow.Author.Needs.{needs}
-use Rattle.subscription.proofs.is_concerned.Statement.{statement}
-use Rattle.subscription.proofs.is_concerned.Tie as tie
+use Rattle.subscription_step.proofs.is_concerned.Statement.{statement}
+use Rattle.subscription_step.proofs.is_concerned.Tie as tie
 
 enum-known-ev : tie.Need-enum-known-ev
 enum-known-ev c = search needs

@@ -1,7 +1,7 @@
 -- Each event has its own step.
 use borrow.Author.Needs.{needs}
-use Rattle.subscription.proofs.step.Statement.{statement}
-use Rattle.subscription.proofs.step.Tie as tie
+use Rattle.subscription_step.proofs.step.Statement.{statement}
+use Rattle.subscription_step.proofs.step.Tie as tie
 
 enum-known-ev : tie.Need-enum-known-ev
 enum-known-ev c = search needs

@@ -3,10 +3,10 @@ use mathlib.Core.Bool.{false}
 use mathlib.Core.Path.{refl, sym, _∙_}
 use borrow.Author.Tests.{eq-eqb, ne-eqb}
 use borrow.Author.Needs.{needs}
-use Rattle.subscription.proofs.Stepping.{changing, staying}
-use Rattle.subscription.specs.declared.Event.the-variants.{Clock}
-use Rattle.subscription.proofs.on_clock.Statement.{statement}
-use Rattle.subscription.proofs.on_clock.Tie as tie
+use Rattle.subscription_step.proofs.Stepping.{changing, staying}
+use Rattle.subscription_step.specs.declared.Event.the-variants.{Clock}
+use Rattle.subscription_step.proofs.on_clock.Statement.{statement}
+use Rattle.subscription_step.proofs.on_clock.Tie as tie
 
 is-due-requires : tie.Need-is-due-requires
 is-due-requires c κs = search needs

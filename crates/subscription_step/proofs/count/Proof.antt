@@ -1,9 +1,9 @@
 -- A count grows by at most one.
 use native.Mathlib.Omega.{arith}
 use borrow.Author.Needs.{needs}
-use Rattle.subscription.proofs.Stepping.{one-small}
-use Rattle.subscription.proofs.count.Statement.{statement}
-use Rattle.subscription.proofs.count.Tie as tie
+use Rattle.subscription_step.proofs.Stepping.{one-small}
+use Rattle.subscription_step.proofs.count.Statement.{statement}
+use Rattle.subscription_step.proofs.count.Tie as tie
 
 cast-t4 : tie.Need-cast-t4
 cast-t4 c = search needs

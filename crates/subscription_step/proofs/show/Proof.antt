@@ -1,7 +1,7 @@
 -- Each answer is the part of one of the two slices.
 use borrow.Author.Needs.{needs}
-use Rattle.subscription.proofs.show.Statement.{statement}
-use Rattle.subscription.proofs.show.Tie as tie
+use Rattle.subscription_step.proofs.show.Statement.{statement}
+use Rattle.subscription_step.proofs.show.Tie as tie
 
 is-substituted-requires : tie.Need-is-substituted-requires
 is-substituted-requires c κs = search needs

@@ -6,12 +6,12 @@ use mathlib.Core.Bool.{Bool, true, false, cond, _&&_}
 use lib.Dec.{leb}
 use lib.ListN.{length, replicate}
 use Rattle.octets.specs.Octets.{part, put}
-use Rattle.subscription.specs.declared.Event.{Event}
-use Rattle.subscription.specs.declared.Event.the-variants.{Telegram, Clock}
+use Rattle.subscription_step.specs.declared.Event.{Event}
+use Rattle.subscription_step.specs.declared.Event.the-variants.{Telegram, Clock}
 use Rattle.subscription.specs.declared.Subscription.{Subscription}
-use Rattle.subscription.specs.declared.Tally.{Tally}
-use Rattle.subscription.specs.declared.Stepped.{Stepped}
+use Rattle.subscription_step.specs.declared.Tally.{Tally}
+use Rattle.subscription_step.specs.declared.Stepped.{Stepped}
 use Rattle.subscription.specs.Record.{recordWants, recordTakes, recordTaken, recordDue, recordMarked, zeroes, substitutes}
 
 -- a telegram reaches the slot's filter; the clock reaches none
 abbrev pub reaches : Event → Subscription → Bool

@@ -4,11 +4,11 @@ use mathlib.Core.Path.{_≡_, sym, _∙_}
 use lib.ListN.{length}
 use borrow.Author.Tests.{le-leb, lt-leb}
 use borrow.Author.Needs.{needs}
-use Rattle.subscription.proofs.Stepping.{changing, staying}
-use Rattle.subscription.specs.Step.{changes}
-use Rattle.subscription.specs.declared.Event.the-variants.{Telegram}
-use Rattle.subscription.proofs.on_telegram.Statement.{statement}
-use Rattle.subscription.proofs.on_telegram.Tie as tie
+use Rattle.subscription_step.proofs.Stepping.{changing, staying}
+use Rattle.subscription_step.specs.Step.{changes}
+use Rattle.subscription_step.specs.declared.Event.the-variants.{Telegram}
+use Rattle.subscription_step.proofs.on_telegram.Statement.{statement}
+use Rattle.subscription_step.proofs.on_telegram.Tie as tie
 
 is-wanted-requires : tie.Need-is-wanted-requires
 is-wanted-requires c κs = search needs

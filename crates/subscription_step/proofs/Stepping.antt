@@ -8,11 +8,11 @@ use Prim.Native.Nat.{ℕ, _+_, _≤_}
 use native.Mathlib.Omega.{arith}
 use native.Mathlib.Nat.{add-zero}
 use lib.ListN.{length}
-use Rattle.subscription.specs.declared.Event.the-variants.{Telegram, Clock}
-use Rattle.subscription.specs.declared.Event.{Event}
+use Rattle.subscription_step.specs.declared.Event.the-variants.{Telegram, Clock}
+use Rattle.subscription_step.specs.declared.Event.{Event}
 use Rattle.subscription.specs.declared.Subscription.{Subscription}
-use Rattle.subscription.specs.declared.Tally.{Tally}
-use Rattle.subscription.specs.Step.{concerns, one, reaches, changes, changedRecord, changedPart, recordAfter, partAfter, tallied, Steps}
+use Rattle.subscription_step.specs.declared.Tally.{Tally}
+use Rattle.subscription_step.specs.Step.{concerns, one, reaches, changes, changedRecord, changedPart, recordAfter, partAfter, tallied, Steps}
 
 pub one-small : (b : Bool) → one b ≤ 1
 one-small true = omega arith
