@@ -3,7 +3,8 @@ use Prim.Native.Nat.{ℕ}
 use mathlib.Core.Path.{_≡_, refl}
 use mathlib.Core.List.{List, [], _∷_, map}
 use mathlib.Core.Bool.{Bool, true, false}
-use Rattle.fcs.specs.Fcs.{bit, bits, crc32}
+use Rattle.fcs_steps.specs.Steps.{bit, bits}
+use Rattle.fcs.specs.Fcs.{crc32}
 use Rattle.subscription.specs.Record.{fresh}
 use Rattle.telegram.specs.Telegram.{padded}
 use Rattle.topography.specs.Topography.{passes}

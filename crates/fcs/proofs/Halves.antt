@@ -6,7 +6,7 @@ use native.Mathlib.Nat.{mul-assoc}
 use native.Mathlib.Omega.{arith}
 use lib.Bits.{bitXor, xor-comm, xor-shifted}
 use lib.Pow.{pow-add, shr-lt}
-use Rattle.fcs.specs.Fcs.{bits}
+use Rattle.fcs_steps.specs.Steps.{bits}
 use Rattle.fcs.proofs.Linear.{xor-scaled, bits-xor, bits-add, bits-down, apart}
 
 -- 64 steps of the low half octet of x, at place j

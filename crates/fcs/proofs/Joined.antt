@@ -7,7 +7,8 @@ use lib.Bits.{bitXor}
 use native.Mathlib.Omega.{arith}
 use lib.ListN.{length, take, drop, take-append-drop, length-drop}
 use lib.Seq.{take-all}
-use Rattle.fcs.specs.Fcs.{bits, register}
+use Rattle.fcs_steps.specs.Steps.{bits}
+use Rattle.fcs.specs.Fcs.{register}
 
 pub register-append : (c : ℕ) (a b : List ℕ) → register c (a ++ b) ≡ register (register c a) b
 register-append c [] b = refl

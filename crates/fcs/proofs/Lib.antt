@@ -3,4 +3,3 @@ pub mod Linear
 pub mod Halves
 pub mod Joined
 pub mod Turns
-pub mod Rule

@@ -6,7 +6,7 @@ use native.Mathlib.Nat.{mod-lt, suc-add, add-zero, zero-add}
 use native.Mathlib.Omega.{arith}
 use lib.Bits.{bitXor, xor-comm, xor-zero-r, xor-shr, xor-mod, xor-block, xor-shifted, shifted-half, shifted-even}
 use lib.Pow.{pow-pos, split}
-use Rattle.fcs.specs.Fcs.{bit, bits}
+use Rattle.fcs_steps.specs.Steps.{bit, bits}
 use Rattle.fcs.proofs.Xor.{xor-assoc}
 
 pub xor-swap : (a b c d : ℕ) → bitXor (bitXor a b) (bitXor c d) ≡ bitXor (bitXor a c) (bitXor b d)

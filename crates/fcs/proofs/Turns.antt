@@ -11,7 +11,8 @@ use lib.ListN.{length, getD, drop, length-drop, drop-of-length-le}
 use lib.Seq.{drop-drop, drop-cons, length-take-le}
 use Rattle.octets.specs.Octets.{Octets, little, part}
 use Rattle.octets.proofs.Numbers.{tail-octets, octets-take, octets-drop}
-use Rattle.fcs.specs.Fcs.{bits, register}
+use Rattle.fcs_steps.specs.Steps.{bits}
+use Rattle.fcs.specs.Fcs.{register}
 use Rattle.fcs.proofs.Xor.{xor-assoc}
 use Rattle.fcs.proofs.Linear.{bits-xor, bits-add, bits-down}
 use Rattle.fcs.proofs.Joined.{register-split}

@@ -12,10 +12,10 @@ use Rattle.fcs.proofs.by_eights.Statement.{statement}
 use Rattle.fcs.proofs.by_eights.Tie as tie
 
 abbrev Inv-loop : tie.InvT-loop
-Inv-loop t begun s c₀ i₀ c i = (i ≤ length s) × (i % 8 ≡ 0) × (register begun s ≡ register c (drop i s))
+Inv-loop begun s c₀ i₀ c i = (i ≤ length s) × (i % 8 ≡ 0) × (register begun s ≡ register c (drop i s))
 
 abbrev μ-loop : tie.MeasureT-loop
-μ-loop t begun s c₀ i₀ c i = length s - i
+μ-loop begun s c₀ i₀ c i = length s - i
 
 loop-holds : tie.Need-loop-holds Inv-loop μ-loop
 loop-holds c = search needs

@@ -15,17 +15,14 @@ use Rattle.fcs.proofs.update.Tie as tie
 fronted : (s : List ℕ) → length (take (length s / 8 * 8) s) ≡ length s / 8 * 8
 fronted s = length-take-le (length s / 8 * 8) s (omega arith)
 
-table-requires : tie.Need-table-requires
-table-requires c κs = search needs
-
 mul-n : tie.Need-mul-n
 mul-n c = search needs
 
 slice-aggregate-by-eights : tie.Need-slice-aggregate-by-eights
-slice-aggregate-by-eights c = omega (arith, fronted (c .before .before .before .before .args .s .now))
+slice-aggregate-by-eights c = omega (arith, fronted (c .before .before .args .s .now))
 
 by-eights-requires : tie.Need-by-eights-requires
-by-eights-requires c κs = (search needs, omega (arith, fronted (c .before .before .before .before .args .s .now)))
+by-eights-requires c κs = omega (arith, fronted (c .before .before .args .s .now))
 
 sub-by-four : tie.Need-sub-by-four
 sub-by-four c = search needs
@@ -41,18 +38,17 @@ by-four-requires c κs = search needs
 
 returns : tie.Need-returns
 returns c =
-    let a = c .before .before .before .before .before .before .before .before .args in
+    let a = c .before .before .before .before .before .args in
     let n = length (a .s .now) / 8 * 8 in
     let s : List ℕ = a .s .now in
     c .by-four .ensures
-    ∙ ap₂ register (c .before .before .before .by-eights .ensures) (part-behind n s)
+    ∙ ap₂ register (c .before .before .by-eights .ensures) (part-behind n s)
     ∙ sym (register-split (a .begun) n s)
 
 pub update-spec : {M : Type 1} → statement M
 update-spec =
     tie.close
     (tie.spec
-    table-requires
     mul-n
     slice-aggregate-by-eights
     by-eights-requires
