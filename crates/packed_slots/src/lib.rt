@@ -7,13 +7,16 @@ use session_table::ListenerSought;
 use session_table::Place;
 use session_table::Sought;
 ghost use mathlib.Core.Path.{_≡_};
+ghost use mathlib.Core.Bool.{not, _&&_};
+ghost use lib.Dec.{eqb};
+ghost use Prim.Native.Nat.{_<_};
 ghost use lib.ListN.{length, getD};
 ghost use Rattle.tables.specs.Lists.{lowest};
 ghost use Rattle.session_table.specs.Sought.{foundOf, listenerSoughtBy, soughtBy};
 ghost use Rattle.session.specs.Listener.{freeListener};
 ghost use Rattle.session.specs.Session.{freeSession};
 ghost use Rattle.packed.specs.Packed.{tablesOf};
-ghost use Rattle.packed_slots.specs.Slots.{PutsListener, PutsSession, Places};
+ghost use Rattle.packed_slots.specs.Slots.{PutsListener, PutsSession, Places, ruledOut, stateInUse, stateRuledOut};
 
 // The session of a slot; a slot too large is a free one.
 pub fn session_at(octets: &[u8], k: usize) -> Session
@@ -65,6 +68,43 @@ pub fn put_listener(octets: &mut [u8], k: usize, l: Listener)
     }
 }
 
+// A listener, in use or not, is not one in use with the ComId that is sought.
+fn is_other(used: bool, com_id: u32, sought: u32) -> bool
+    ensures { λ r. ⌜ r ≡ not (used && eqb «com_id» sought) ⌝ }
+{
+    if used {
+        return com_id != sought;
+    }
+    true
+}
+
+// A listener, in use or not and with this ComId, is none that is sought.
+fn is_ruled_out(w: ListenerSought, used: bool, com_id: u32) -> bool
+    ensures { λ r. ⌜ r ≡ ruledOut w used «com_id» ⌝ }
+{
+    match w {
+        ListenerSought::Vacant => used,
+        ListenerSought::Hearing(sought, _) => is_other(used, com_id, sought),
+        ListenerSought::Holding(sought, _) => is_other(used, com_id, sought),
+    }
+}
+
+// The listener of a slot is one that is sought. It is unpacked only where its first octet and its ComId do not rule it out.
+fn is_listener_at(octets: &[u8], k: usize, w: ListenerSought, uri: &[u8]) -> bool
+    requires { ⌜ length (now octets) ≡ 1280 ⌝ }
+    requires { ⌜ k < 16 ⌝ }
+    ensures { λ r. ⌜ r ≡ listenerSoughtBy w (now (uri .entry)) (getD (tablesOf (now (octets .entry)) .listeners) k freeListener) ⌝ }
+{
+    let at = k * 48;
+    let used = octets[at] != 0;
+    let com_id = octets::little4(octets, at + 4);
+    if is_ruled_out(w, used, com_id) {
+        return false;
+    }
+    let l = listener_at(octets, k);
+    session_table::is_listener_sought(l, w, uri)
+}
+
 // The lowest listener that is sought.
 pub fn find_listener(octets: &[u8], w: ListenerSought, uri: &[u8]) -> Found
     requires { ⌜ length (now octets) ≡ 1280 ⌝ }
@@ -72,13 +112,48 @@ pub fn find_listener(octets: &[u8], w: ListenerSought, uri: &[u8]) -> Found
 {
     let mut i: usize = 0;
     while i < 16 {
-        let l = listener_at(octets, i);
-        if session_table::is_listener_sought(l, w, uri) {
+        if is_listener_at(octets, i, w, uri) {
             return Found::At(i);
         }
         i += 1;
     }
     Found::Nothing
+}
+
+// The number of a session's state says that it is in use.
+fn is_state_in_use(n: u8) -> bool
+    ensures { λ r. ⌜ r ≡ stateInUse n ⌝ }
+{
+    if 1 <= n {
+        return n <= 4;
+    }
+    false
+}
+
+// A session with this number of its state is none that is sought.
+fn is_state_ruled_out(w: Sought, n: u8) -> bool
+    ensures { λ r. ⌜ r ≡ stateRuledOut w n ⌝ }
+{
+    let used = is_state_in_use(n);
+    match w {
+        Sought::Vacant => used,
+        Sought::InUse => !used,
+        Sought::Waiting(_) => !used,
+    }
+}
+
+// The session of a slot is one that is sought. It is unpacked only where the number of its state does not rule it out.
+fn is_session_at(octets: &[u8], k: usize, id: [u8; 16], w: Sought) -> bool
+    requires { ⌜ length (now octets) ≡ 1280 ⌝ }
+    requires { ⌜ k < 16 ⌝ }
+    ensures { λ r. ⌜ r ≡ soughtBy w id (getD (tablesOf (now (octets .entry)) .sessions) k freeSession) ⌝ }
+{
+    let at = 768 + k * 32;
+    if is_state_ruled_out(w, octets[at]) {
+        return false;
+    }
+    let x = session_at(octets, k);
+    session_table::is_sought(x, id, w)
 }
 
 // The lowest session that is sought.
@@ -88,8 +163,7 @@ pub fn find_session(octets: &[u8], id: [u8; 16], w: Sought) -> Found
 {
     let mut i: usize = 0;
     while i < 16 {
-        let x = session_at(octets, i);
-        if session_table::is_sought(x, id, w) {
+        if is_session_at(octets, i, id, w) {
             return Found::At(i);
         }
         i += 1;

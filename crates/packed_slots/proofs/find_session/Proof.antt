@@ -1,5 +1,5 @@
 -- The lowest is sought, one record a turn.
-use mathlib.Core.Path.{sym, ap, _∙_}
+use mathlib.Core.Path.{sym, _∙_}
 use Prim.Native.Nat.{_-_}
 use native.Mathlib.Omega.{arith}
 use Rattle.session_table.proofs.Searches.{Sought, sought-start, sought-here, sought-next, sought-end}
@@ -22,19 +22,16 @@ loop-holds c =
     let a = c .before .args in
     sought-start (soughtBy (a .w) (a .id)) (tablesOf (a .octets .now) .sessions) (sessions-long (a .octets .now))
 
-session-at-requires : tie.Need-session-at-requires Inv-loop μ-loop
-session-at-requires c κs = search needs
-
-is-sought-requires : tie.Need-is-sought-requires Inv-loop μ-loop
-is-sought-requires c κs = search needs
+is-session-at-requires : tie.Need-is-session-at-requires Inv-loop μ-loop
+is-session-at-requires c κs = search needs
 
 returns : tie.Need-returns Inv-loop μ-loop
 returns c =
-    let a = c .before .before .before .before .before .before .args in
+    let a = c .before .before .before .before .before .args in
     let p = soughtBy (a .w) (a .id) in
     let xs = tablesOf (a .octets .now) .sessions in
-    let i = c .before .before .before .before .loop .i in
-    sought-here p xs freeSession i (c .before .before .before .before .loop .inv) (omega arith) (ap p (sym (c .before .before .session-at .ensures)) ∙ sym (c .before .is-sought .ensures) ∙ c .if1 .taken)
+    let i = c .before .before .before .loop .i in
+    sought-here p xs freeSession i (c .before .before .before .loop .inv) (omega arith) (sym (c .before .is-session-at .ensures) ∙ c .if1 .taken)
 
 add-i : tie.Need-add-i Inv-loop μ-loop
 add-i c = search needs
@@ -44,11 +41,11 @@ loop-less c = search needs
 
 loop-again : tie.Need-loop-again Inv-loop μ-loop
 loop-again c =
-    let a = c .before .before .before .before .before .before .args in
+    let a = c .before .before .before .before .before .args in
     let p = soughtBy (a .w) (a .id) in
     let xs = tablesOf (a .octets .now) .sessions in
-    let i = c .before .before .before .before .loop .i in
-    sought-next p xs freeSession i (c .before .before .before .before .loop .inv) (omega arith) (ap p (sym (c .before .before .session-at .ensures)) ∙ sym (c .before .is-sought .ensures) ∙ c .if1 .left)
+    let i = c .before .before .before .loop .i in
+    sought-next p xs freeSession i (c .before .before .before .loop .inv) (omega arith) (sym (c .before .is-session-at .ensures) ∙ c .if1 .left)
 
 returns-2 : tie.Need-returns-2 Inv-loop μ-loop
 returns-2 c =
@@ -62,8 +59,7 @@ find-session-spec =
     Inv-loop
     μ-loop
     loop-holds
-    session-at-requires
-    is-sought-requires
+    is-session-at-requires
     returns
     add-i
     loop-less
