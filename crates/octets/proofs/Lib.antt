@@ -3,3 +3,4 @@ pub mod Numbers
 pub mod Halves
 pub mod Signed
 pub mod Puts
+pub mod Arms

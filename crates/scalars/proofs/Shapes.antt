@@ -1,4 +1,4 @@
--- The shapes of scalar types: two tables, each the definition's list by another name.
+-- The shapes of scalar types: their sizes as one list, and which numbers have no parts.
 -- Assumes nothing.
 use mathlib.Core.Path.{_≡_, refl, sym}
 use mathlib.Core.List.{List, [], _∷_}
@@ -7,16 +7,10 @@ use native.Mathlib.Omega.{arith}
 use lib.ListN.{getD, List·getD-map, List·getD-eq-default}
 use Rattle.scalars.specs.Scalars.{scalarTypes, partsOf, size, shapes, shapeParts}
 
-abbrev pub shapeTable : List ℕ
-shapeTable = 0 ∷ 1 ∷ 1 ∷ 2 ∷ 1 ∷ 2 ∷ 3 ∷ 4 ∷ 1 ∷ 2 ∷ 3 ∷ 4 ∷ 3 ∷ 4 ∷ 3 ∷ 5 ∷ 6 ∷ []
-
-abbrev pub sizeTable : List ℕ
+abbrev sizeTable : List ℕ
 sizeTable = 0 ∷ 1 ∷ 2 ∷ 4 ∷ 8 ∷ 6 ∷ 8 ∷ []
 
-pub shape-is : (t : ℕ) → shapeParts (getD shapeTable t 0) ≡ partsOf t
-shape-is t = sym (List·getD-map shapeParts shapeTable t 0)
-
-pub size-is : (k : ℕ) → getD sizeTable k 0 ≡ size (shapeParts k)
+size-is : (k : ℕ) → getD sizeTable k 0 ≡ size (shapeParts k)
 size-is k = List·getD-map size shapes k []
 
 -- no other shape, and no other type, has parts

@@ -6,30 +6,46 @@ ghost use lib.ListN.{length};
 ghost use Rattle.octets.specs.Octets.{part, put};
 ghost use Rattle.scalars.specs.Scalars.{partsOf, size, shapeParts, turnedAt, arrayAt};
 
-// The parts in which the octets of the types 0 to 16 are turned round, as numbers that SIZES lists.
-const SHAPES: [usize; 17] = [0, 1, 1, 2, 1, 2, 3, 4, 1, 2, 3, 4, 3, 4, 3, 5, 6];
-
-// How many octets: none, one, two, four, eight, four then two, four then four.
-const SIZES: [usize; 7] = [0, 1, 2, 4, 8, 6, 8];
-
-// The shape of a scalar type.
+// The shape of a scalar type: in which parts its octets are turned round, as a number that size_of lists; 0 where there is no such type.
 pub fn shape_of(t: u32) -> usize
     ensures { λ r. ⌜ shapeParts r ≡ partsOf t ⌝ }
 {
-    if t < 17 {
-        return SHAPES[t as usize];
+    match t {
+        0 => 0,
+        1 => 1,
+        2 => 1,
+        3 => 2,
+        4 => 1,
+        5 => 2,
+        6 => 3,
+        7 => 4,
+        8 => 1,
+        9 => 2,
+        10 => 3,
+        11 => 4,
+        12 => 3,
+        13 => 4,
+        14 => 3,
+        15 => 5,
+        16 => 6,
+        _ => 0,
     }
-    0
 }
 
-// How many octets a shape has.
+// How many octets a shape has: none, one, two, four, eight, four then two, four then four.
 pub fn size_of(shape: usize) -> usize
     ensures { λ r. ⌜ r ≡ size (shapeParts shape) ⌝ }
 {
-    if shape < 7 {
-        return SIZES[shape];
+    match shape {
+        0 => 0,
+        1 => 1,
+        2 => 2,
+        3 => 4,
+        4 => 8,
+        5 => 6,
+        6 => 8,
+        _ => 0,
     }
-    0
 }
 
 // The octets of the source at p, turned round, written to the target at p.

@@ -1,7 +1,8 @@
 -- At each arm the place and the half octet are known, and 64 steps of a known number are computed.
 use mathlib.Core.Path.{_≡_, sym, ap₂}
-use Prim.Native.Nat.{ℕ, zero, suc, _*_, _^_, _<_, _≤_, zero-le}
+use Prim.Native.Nat.{ℕ, _*_, _^_, _<_}
 use native.Mathlib.Omega.{arith}
+use Rattle.octets.proofs.Arms.{NoneBelow, reaches}
 use Rattle.fcs_steps.specs.Steps.{bits, bit}
 use Rattle.fcs_steps.proofs.entry.Statement.{statement}
 use Rattle.fcs_steps.proofs.entry.Tie as tie
@@ -9,15 +10,6 @@ use Rattle.fcs_steps.proofs.entry.Tie as tie
 -- 64 steps of the half octet x at place p, where these are known to be k and j
 at : (j k : ℕ) {p x : ℕ} → p ≡ j → x ≡ k → bits 64 (k * 2 ^ (4 * j)) ≡ bits 64 (x * 2 ^ (4 * p))
 at j k hp hx = sym (ap₂ (λ (p x : ℕ). bits 64 (x * 2 ^ (4 * p))) hp hx)
-
--- x is none of the numbers below n
-abbrev NoneBelow : ℕ → ℕ → Type 0
-NoneBelow zero x = Unit
-NoneBelow (suc n) x = NoneBelow n x × (x ≡ n → ⊥)
-
-reaches : (n x : ℕ) → NoneBelow n x → n ≤ x
-reaches zero x h = zero-le
-reaches (suc n) x h = omega (arith, reaches n x (h .0), h .1)
 
 -- what is left for the last arm
 left : {x : ℕ} → x < 16 → NoneBelow 15 x → x ≡ 15
