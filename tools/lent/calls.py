@@ -3,8 +3,7 @@ types={'Subscription':('Subscription','subscriptionBy 𝓤 H A W','X.the-row'),'
   'Received':('Received','receivedBy 𝓤 H A W','Z.the-row'),'One':('One','oneBy 𝓤 H A W','J.the-row'),'Statistics':('Statistics','statisticsBy 𝓤 H A W','S.the-row'),'Arrival':('Arrival','arrivalBy 𝓤 H A W','P.the-row'),
   'Slots':('List Subscription','slotsBy 𝓤 H A W 40','(Array X.the-row 40)'),'Slot':('List Subscription','slotsBy 𝓤 H A W 1','(Array X.the-row 1)'),
   'u8':('ℕ','unsignedInt 𝓤 H A W w8','u8'),'u32':('ℕ','unsignedInt 𝓤 H A W w32','u32'),'u64':('ℕ','unsignedInt 𝓤 H A W w64','u64'),'usize':('ℕ','unsignedInt 𝓤 H A W w64','usize')}
-types.update({'Tables':('SessionTables','tablesBy 𝓤 H A W','T.the-row'),'Told':('Told','toldBy 𝓤 H A W','D.the-row'),'Counted':('Counted','countedBy 𝓤 H A W','U.the-row')})
-made={'Counted':'counted','Called':'called','Received':'received','One':'one'}
+made={'Called':'called','Received':'received','One':'one'}
 uses='''use Rattle.subscription.specs.declared.Subscription.{Subscription}
 use Rattle.subscription.specs.declared.Filter.{Filter}
 use Rattle.arrival.specs.declared.Arrival.{Arrival}
@@ -17,10 +16,6 @@ use Rattle.subscriptions.specs.Calls.{Follows}
 use Rattle.subscription_decisions.specs.Calls.{meaning}
 use Rattle.subscriptions.specs.Read.{Reads}
 use Rattle.subscriptions.specs.Receive as arriving
-use Rattle.messages.specs.Arriving as message
-use Rattle.session_table.specs.declared.Tables.{Tables as SessionTables}
-use Rattle.session_table.specs.declared.Told.{Told}
-use Rattle.messages.proofs.Values.{tablesBy, toldBy}
 use Rattle.subscriptions.proofs.Values.{subscriptionBy, filterBy, answerBy, readingBy, arrivalBy}
 use Rattle.subscriptions.proofs.Granting.{request}
 use Rattle.lent.specs.Lent.{lentSlots, Serves, Receives}
@@ -29,9 +24,8 @@ uses_walk='''use denote.Array.{Array}
 use Rattle.lent.specs.declared.Called.{Called}
 use Rattle.lent.specs.declared.Received.{Received}
 use Rattle.lent.specs.declared.One.{One}
-use Rattle.lent.specs.declared.Counted.{Counted}
 use Rattle.lent.proofs.Own.{fewer, own-lent, own-seen, starts, own-ref-lent, starts-ref, obeys}
-use Rattle.lent.proofs.Values.{spelled, lawful, slotsBy, calledBy, receivedBy, oneBy, called, called-val, called-is, received, received-val, received-is, one, one-val, one-is, countedBy, counted, counted-val, counted-is}
+use Rattle.lent.proofs.Values.{spelled, lawful, slotsBy, calledBy, receivedBy, oneBy, called, called-val, called-is, received, received-val, received-is, one, one-val, one-is}
 use Rattle.lent.proofs.Serving.{few, counts, serves, receives, counts-one, serves-one, shows as sees}
 use Rattle.subscription.proofs.Subscription as X
 use Rattle.subscription.proofs.Subscription.Laws as X′
@@ -49,18 +43,12 @@ use Rattle.lent.proofs.Called as C
 use Rattle.lent.proofs.Called.Laws as C′
 use Rattle.lent.proofs.Received as Z
 use Rattle.lent.proofs.Received.Laws as Z′
-use Rattle.session_table.proofs.Tables as T
-use Rattle.session_table.proofs.Tables.Laws as T′
-use Rattle.session_table.proofs.Told as D
-use Rattle.session_table.proofs.Told.Laws as D′
-use Rattle.lent.proofs.Counted as U
-use Rattle.lent.proofs.Counted.Laws as U′
 use Rattle.lent.proofs.One as J
 use Rattle.lent.proofs.One.Laws as J′
 '''
 L,ST,SO,K,TIME=('l','slice','Subscription'),('st','slice','u8'),('st','shr','u8'),('k','plain','usize'),('time','plain','u64')
 F,TM,BH=('fl','plain','Filter'),('tm','plain','u32'),('bh','plain','u8')
-TB,AR,D,X=('tb','plain','Tables'),('ar','plain','Arrival'),('d','shr','u8'),('x','plain','Statistics')
+AR,D,X=('ar','plain','Arrival'),('d','shr','u8'),('x','plain','Statistics')
 SL,N=('slots','plain','Slots'),('n','plain','usize')
 ask='(subscribe (request {fl} {tm} {bh}) {time})'
 plain={'at_most':dict(params=[('asked','plain','usize')],res='usize',w='lentSlots {asked}')}
@@ -71,7 +59,6 @@ callees={
  'unsubscribe':dict(of='subscriptions',params=[L,ST,K],res='Answer',told=follows('(unsubscribe {k})')),
  'time_check':dict(of='subscriptions',params=[L,ST,TIME],res='Answer',told=follows('(timeCheck {time})')),
  'receive':dict(of='subscriptions',params=[L,ST,('s','ref','Statistics'),AR,D],res='Answer',told=lambda r,l,st,s:'arriving.Receives {ar} {d} {l} {st} {s} (meaning (%s)) (%s) (%s) (%s)'%(r,l,st,s)),
- 'session_receive':dict(of='messages',name='receive',params=[TB,('s','ref','Statistics'),AR,D],res='Told',told=lambda r,s:'message.Receives {ar} {d} {tb} {s} (%s) (%s)'%(r,s)),
  'read':dict(of='subscriptions',params=[('l','seen','Subscription'),SO,K],res='Reading',told=lambda r:'Reads {k} {l} {st} (%s)'%r),
 }
 whole='(slots-is .1 .0 .1)'
@@ -86,5 +73,4 @@ functions={
    said=lambda s,arm:'receives n slots %s ar d st x (meaning w) (z .0) (z .1 .0) (z .1 .1 .0) said'%whole),
  'receive_one':dict(params=[('slots','plain','Slot'),ST,X,AR,D],res='One',told=lambda r,s:'arriving.Receives {ar} {d} {slots} {st} {x} (meaning ((%s) .answer)) ((%s) .slots) (%s) ((%s) .statistics)'%(r,r,s,r),
    room=lambda s,p:'lit< tt, lit< tt',counts=lambda s,p:'counts-one slots '+whole,said=lambda s,arm:'serves-one slots %s ar d st x (meaning w) (z .0) (z .1 .0) (z .1 .1 .0) said'%whole),
- 'receive_counted':dict(params=[TB,X,AR,D],res='Counted',told=lambda r:'message.Receives {ar} {d} {tb} {x} ((%s) .told) ((%s) .statistics)'%(r,r),said=lambda s,arm:'said'),
 }

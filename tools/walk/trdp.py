@@ -14,7 +14,7 @@ use Rattle.telegram.specs.declared.Family.{Family}
 use Rattle.telegram.specs.declared.Family.the-variants.{Md}
 use denote.Array.{Array}
 use Rattle.session_table.specs.Table.{step as mdStep, telegram as mdTelegram}
-use Rattle.packed_calls.specs.Calls.{leftBy}
+use Rattle.packed_slots.specs.Calls.{octetsAfter}
 use Rattle.packed.specs.Packed.{tablesOf as unpacked}
 use Rattle.boundary.specs.declared.MdOutcome.{MdOutcome}
 use Rattle.boundary.specs.Sessions.{mdOutcomeOf}
@@ -67,7 +67,7 @@ table={
  'read_record':dict(of='subscription_decisions',here='subscriptions',params=[('n₁','plain','usize'),('n₂','plain','usize'),('x','plain','Subscription')],res='Reading',w='readBy (fits {n₁} {n₂}) {x}'),
  'of_reading':dict(of='boundary',here=True,params=[('x','plain','Reading'),K],res='Shown',w='ofReading {k} {x}',requires='isShown {x} ≡ true → {k} < 32'),
  'trdp_read':dict(root=True,params=[T,SO,K],res='Shown',told=lambda r:'Reads {k} {t} {so} (%s)'%r,hand=dict(said=lambda s,arm:'slot-reads k t so',requires=lambda s,g,n:'slot-there k t so')),
- 'arrive_md':dict(params=[TB,AR,D],res='MdOutcome',w='mdOutcomeOf (%s .answer)'%heard,last=['leftBy (mdTelegram {ar} {d}) (%s .answer) (%s .after) {tb}'%(heard,heard)],told=lambda r,z:'Arrives {ar} {d} {tb} (%s) (%s)'%(r,z),paths=['e .answers','e .leaves'],
+ 'arrive_md':dict(params=[TB,AR,D],res='MdOutcome',w='mdOutcomeOf (%s .answer)'%heard,last=['octetsAfter (mdTelegram {ar} {d}) {tb}'],told=lambda r,z:'Arrives {ar} {d} {tb} (%s) (%s)'%(r,z),paths=['e .answers','e .leaves'],
    tells=('unpacked (v′ .0) ≡ %s .after'%heard,'e .means')),
  'record':dict(of='statistics',params=[SS,('fm','plain','Family'),('o','plain','u8')],res='unit',w='tt',last=['added {fm} {o} {ss}']),
  'trdp_receive_md':dict(root=True,params=[TB,SS,AR,D],res='MdOutcome',told=lambda r,z,s:'MdReceives {ar} {d} {tb} {ss} (%s) (%s) (%s)'%(r,z,s),

@@ -19,7 +19,7 @@ use Rattle.tables.proofs.Lists.{mapped, set-map, grant-map, any-each, lowest-ea
 use Rattle.session.specs.declared.Session.{Session}
 use Rattle.session.specs.declared.SessionState.{SessionState}
 use Rattle.session.specs.declared.SessionState.the-variants.{Free, WaitingForReply, OwingConfirm, WithUser, WaitingForConfirm}
-use Rattle.session_table.specs.declared.Tables.{Tables}
+use Rattle.session_table.specs.Table.{Tables}
 use Rattle.session.specs.Listener.{freeListener}
 use Rattle.session.specs.Session.{freeSession, isFree, waitsForReply, owesConfirm, isWithUser, waitsForConfirm, has, codeOf, expired}
 use Rattle.session.specs.Session.{canTake, answered, isReply}

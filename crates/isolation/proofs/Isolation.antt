@@ -22,7 +22,7 @@ use Rattle.session_table.specs.Table as md
 use Rattle.isolation.specs.Alone as session
 use Rattle.isolation.specs.Beside as sessions
 use Rattle.isolation.specs.Beside.{Slots}
-use Rattle.session_table.specs.declared.Tables.{Tables}
+use Rattle.session_table.specs.Table.{Tables}
 use Rattle.isolation.proofs.Watched as session-watch
 use Rattle.isolation.proofs.Beside as sessions-beside
 use Rattle.isolation.specs.Isolation.{Call, process, message, processed, Both, both, Stack, step, empty, processCall, messageCall, ofProcess, ofMessages, SlotAlone, SessionAlone, seenBy, sideBySide, Isolation}

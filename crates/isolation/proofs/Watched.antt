@@ -25,7 +25,7 @@ use Rattle.session.specs.declared.Listener.{Listener}
 use Rattle.session.specs.declared.Session.{Session}
 use Rattle.session.specs.declared.SessionState.{SessionState}
 use Rattle.session.specs.declared.SessionState.the-variants.{WaitingForReply, WithUser}
-use Rattle.session_table.specs.declared.Tables.{Tables}
+use Rattle.session_table.specs.Table.{Tables}
 use Rattle.session.specs.Listener as Listeners
 use Rattle.session.specs.Session.{freeSession, isFree, waitsForReply, owesConfirm, isWithUser, waitsForConfirm, has, codeOf, expired}
 use Rattle.session.specs.Session.{canTake, answered, isReply}

@@ -5,16 +5,15 @@ use mathlib.Core.Bool.{Bool, true, false, cond, _&&_}
 use mathlib.Core.List.{List, [], _∷_}
 use mathlib.Core.Option.{Option, none, some}
 use lib.Dec.{eqb}
-use lib.IntN.{ℤ, pos}
+use lib.IntN.{pos}
 use lib.ListN.{getD}
-use Rattle.arrival.specs.declared.Arrival.{Arrival}
 use Rattle.md.specs.Uri.{equal}
 use Rattle.md.specs.Md.{sessionIdOf}
 use Rattle.tables.specs.Trace.{run}
 use Rattle.tables.specs.Watch.{Watch, watched, told, watchedAlone}
-use Rattle.session_table.specs.declared.Tables.{Tables}
+use Rattle.session_table.specs.Table.{Tables}
 use Rattle.session.specs.Session.{freeSession, isFree}
-use Rattle.session_table.specs.Table.{Call, listen, unlisten, calling, telegram, reply, confirm, timeCheck, Answer, listening, freed, opened, notified, requested, taken, replied, confirmed, codes, refused, Heard, Judged, refusal, passed, judged, Kind, mn, mr, mp, mq, mc, me, kindOf, step, emptyTables}
+use Rattle.session_table.specs.Table.{Call, listen, unlisten, calling, telegram, reply, confirm, timeCheck, Answer, listening, freed, opened, notified, requested, taken, replied, confirmed, codes, refused, Judged, refusal, passed, judged, Kind, mn, mr, mp, mq, mc, me, kindOf, step, emptyTables}
 
 -- the session of slot k as a table's only session; no listener is left
 abbrev pub slotAt : ℕ → Tables → Tables

@@ -15,7 +15,7 @@ use Rattle.session.specs.declared.Listener.{Listener}
 use Rattle.session.specs.declared.Session.{Session}
 use Rattle.session.specs.declared.SessionState.{SessionState}
 use Rattle.session.specs.declared.SessionState.the-variants.{WaitingForReply, WithUser}
-use Rattle.session_table.specs.declared.Tables.{Tables}
+use Rattle.session_table.specs.Table.{Tables}
 use Rattle.session.specs.Listener.{freeListener}
 use Rattle.session.specs.Session.{freeSession}
 use Rattle.session_table.specs.Table.{Call, listen, unlisten, calling, telegram, reply, confirm, timeCheck, Answer, listening, freed, opened, notified, requested, taken, replied, confirmed, codes, refused, refusedPlain, Heard, Judged, refusal, passed, judged, Kind, mn, mr, mp, mq, mc, me, kindOf, notifying, noListener, allInUse, hearing, step, emptyTables}

@@ -16,7 +16,7 @@ use Rattle.session.specs.Session.{freeSession}
 use Rattle.session_table.specs.Table as md
 use Rattle.isolation.specs.Alone as session
 use Rattle.isolation.specs.Beside as sessions
-use Rattle.session_table.specs.declared.Tables.{Tables}
+use Rattle.session_table.specs.Table.{Tables}
 
 -- a call of process data, or one of message data
 pub data Call : Type 0 where

@@ -7,4 +7,3 @@ pub mod AsUnsubscribe
 pub mod AsTimeCheck
 pub mod AsRead
 pub mod AsReceive
-pub mod AsSessionReceive

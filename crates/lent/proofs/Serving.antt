@@ -1,12 +1,12 @@
 -- The first slots lent: how many they are, and that a call that follows the table's rules on them serves.
 use mathlib.Core.Path.{_≡_, refl, sym, ap, subst, _∙_}
-use Prim.Native.Nat.{ℕ, _<_, _≤_}
+use Prim.Native.Nat.{ℕ, _≤_}
 use native.Mathlib.Nat.{le-refl, le-of-lt}
 use native.Mathlib.Omega.{arith}
 use mathlib.Core.Bool.{Bool, true, false, cond}
-use mathlib.Core.List.{List, [], _∷_, _++_, map, append-nil}
+use mathlib.Core.List.{List, [], _∷_, _++_, append-nil}
 use lib.Dec.{ltb}
-use lib.ListN.{length, length-map, getD, take, drop, drop-of-length-le}
+use lib.ListN.{length, getD, take, drop, drop-of-length-le}
 use lib.Seq.{take-all, length-take-le}
 use borrow.Author.Tests.{ltb-true, ltb-false}
 use Rattle.subscription.specs.declared.Subscription.{Subscription}
@@ -85,7 +85,3 @@ only-slot a d store slot s store′ r none e f = subst (λ (rs : List Subscripti
     alone [] h = absurd (omega arith)
     alone (x ∷ []) h = refl
     alone (x ∷ y ∷ xs) h = absurd (omega arith)
-
--- an array of structs is as long as what owning it tells
-pub length-mapped : (X Y : Type 0) (g : X → Y) (l : List X) (n : ℕ) → length (map g l) ≡ n → length l ≡ n
-length-mapped X Y g l n p = sym (length-map l g) ∙ p

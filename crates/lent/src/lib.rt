@@ -1,7 +1,5 @@
 // The calls over lent memory, for programs that hold their tables by value: each lends the first n of 40 slots.
 use arrival::Arrival;
-use session_table::Tables;
-use session_table::Told;
 use statistics::Statistics;
 use subscription::Filter;
 use subscription::Subscription;
@@ -14,7 +12,6 @@ ghost use Rattle.subscription_table.specs.Table as table;
 ghost use Rattle.subscription_decisions.specs.Calls.{meaning};
 ghost use Rattle.subscriptions.specs.Read.{Reads};
 ghost use Rattle.subscriptions.specs.Receive as arriving;
-ghost use Rattle.messages.specs.Arriving as message;
 ghost use Rattle.lent.specs.Lent.{lentSlots, Serves, Receives};
 
 // The slots after a call, and its answer.
@@ -42,19 +39,6 @@ pub struct Alone {
     pub slot: Subscription,
     pub statistics: Statistics,
     pub answer: Answer,
-}
-
-// What an MD telegram was told, and the statistics after it.
-pub struct Counted {
-    pub told: Told,
-    pub statistics: Statistics,
-}
-
-// The session tables and the statistics after an MD telegram, and its answer.
-pub struct Messaged {
-    pub tables: Tables,
-    pub statistics: Statistics,
-    pub answer: session_table::Answer,
 }
 
 // How many slots are lent: more than 40 is read as 40.
@@ -181,34 +165,6 @@ pub fn receive_alone(
     let answer = r.answer;
     Alone {
         slot: slots[0],
-        statistics: s,
-        answer: answer,
-    }
-}
-
-// An MD datagram arrives, and is counted.
-fn receive_counted(t: Tables, statistics: Statistics, a: Arrival, datagram: &[u8]) -> Counted
-    ensures { λ r. ⌜ message.Receives a (now (datagram .entry)) t statistics (r .told) (r .statistics) ⌝ }
-{
-    let mut s = statistics;
-    let told = messages::receive(t, &mut s, a, datagram);
-    Counted {
-        told: told,
-        statistics: s,
-    }
-}
-
-// An MD datagram arrives.
-pub fn receive_message(t: Tables, statistics: Statistics, a: Arrival, datagram: &[u8]) -> Messaged
-    ensures { λ r. ⌜ message.Receives a (now (datagram .entry)) t statistics (record { tables = r .tables; answer = r .answer }) (r .statistics) ⌝ }
-{
-    let r = receive_counted(t, statistics, a, datagram);
-    let told = r.told;
-    let tables = told.tables;
-    let s = r.statistics;
-    let answer = told.answer;
-    Messaged {
-        tables: tables,
         statistics: s,
         answer: answer,
     }

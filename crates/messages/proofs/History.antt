@@ -5,7 +5,7 @@ use mathlib.Core.List.{List}
 use Rattle.statistics.specs.declared.Statistics.{Statistics}
 use Rattle.statistics.specs.Statistics.{Arrived, afterAll}
 use Rattle.statistics.proofs.History.{of-history}
-use Rattle.session_table.specs.declared.Tables.{Tables}
+use Rattle.session_table.specs.Table.{Tables}
 use Rattle.session_table.specs.Table.{Call, listen, unlisten, calling, telegram, reply, confirm, timeCheck, Answer, step}
 use Rattle.messages.specs.History.{statisticsAfter, statisticsOver, entered, history}
 

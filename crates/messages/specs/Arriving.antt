@@ -2,17 +2,14 @@
 use Prim.Native.Nat.{ℕ}
 use mathlib.Core.Path.{_≡_}
 use mathlib.Core.List.{List, []}
-use Rattle.arrival.specs.declared.Arrival.{Arrival}
-use Rattle.statistics.specs.Statistics.{added}
-use Rattle.statistics.specs.declared.Statistics.{Statistics}
 use Rattle.tables.specs.Trace.{Outcome}
-use Rattle.telegram.specs.declared.Family.the-variants as family
-use Rattle.messages.specs.declared.Message.{Message}
 use Rattle.session.specs.declared.Session.{Session}
-use Rattle.session_table.specs.declared.Tables.{Tables}
-use Rattle.session_table.specs.declared.Told.{Told}
-use Rattle.session_table.specs.Table.{Answer, listening, freed, opened, notified, requested, taken, replied, confirmed, codes, refused, Heard, telegram}
-use Rattle.session_table.specs.Calls.{meaning, Follows}
+use Rattle.session_table.specs.declared.Answer as declared
+use Rattle.session_table.specs.Table.{Call, Answer, listening, freed, opened, notified, requested, taken, replied, confirmed, codes, refused, Heard}
+use Rattle.session_table.specs.Calls.{meaning}
+use Rattle.packed.specs.Packed.{tablesOf}
+use Rattle.packed_slots.specs.Calls.{leftBy}
+use Rattle.messages.specs.declared.Message.{Message}
 
 -- a telegram that passed its checks, with its destination URI
 abbrev pub heardBy : Message → List ℕ → Heard
@@ -32,10 +29,11 @@ heardBy m destination =
 abbrev pub byIdentifier : Message → Heard
 byIdentifier m = heardBy m []
 
--- what a rule answers and leaves of the sessions; the listeners stay
-pub record Gives (t : Tables) (o : Outcome Answer (List Session)) (r : Told) : Type 0 where
-  pub answers : meaning (r .answer) ≡ o .answer
-  pub leaves : r .tables ≡ record { listeners = t .listeners; sessions = o .after }
+-- what a rule answers, and the sessions that it leaves, over lent octets; the listeners stay
+pub record Gives (octets : List ℕ) (o : Outcome Answer (List Session)) (a : declared.Answer) (octets′ : List ℕ) : Type 0 where
+  pub answers : meaning a ≡ o .answer
+  pub means : tablesOf octets′ ≡ record { listeners = tablesOf octets .listeners; sessions = o .after }
+  pub leaves : (c : Call) → octets′ ≡ leftBy c (o .answer) (record { listeners = tablesOf octets .listeners; sessions = o .after }) octets
 
 -- the outcome that statistics count: the refusal number, 0 for whatever was granted
 abbrev pub outcomeOf : Answer → ℕ
@@ -49,8 +47,3 @@ outcomeOf replied = 0
 outcomeOf confirmed = 0
 outcomeOf (codes cs) = 0
 outcomeOf (refused r status) = r
-
--- a telegram received: what the rules say, and the statistics added to by its outcome
-pub record Receives (a : Arrival) (d : List ℕ) (t : Tables) (before : Statistics) (r : Told) (after : Statistics) : Type 0 where
-  pub follows : Follows (telegram a d) t r
-  pub counts : after ≡ added family.Md (outcomeOf (meaning (r .answer))) before

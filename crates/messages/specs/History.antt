@@ -3,7 +3,7 @@ use mathlib.Core.List.{List, [], _∷_}
 use Rattle.telegram.specs.declared.Family.the-variants.{Md}
 use Rattle.statistics.specs.declared.Statistics.{Statistics}
 use Rattle.statistics.specs.Statistics.{added, Arrived}
-use Rattle.session_table.specs.declared.Tables.{Tables}
+use Rattle.session_table.specs.Table.{Tables}
 use Rattle.session_table.specs.Table.{Call, listen, unlisten, calling, telegram, reply, confirm, timeCheck, Answer, step}
 use Rattle.messages.specs.Arriving.{outcomeOf}
 

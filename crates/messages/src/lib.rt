@@ -1,4 +1,4 @@
-// An arriving MD datagram, over sixteen listeners and sixteen sessions by value, with lent statistics.
+// An arriving MD datagram, over the octets of listeners and sessions.
 use arrival::Arrival;
 use md::MdTaken;
 use session::Session;
@@ -8,19 +8,17 @@ use session_table::Answer;
 use session_table::Found;
 use session_table::ListenerSought;
 use session_table::Sought;
-use session_table::Tables;
-use session_table::Told;
-use statistics::Statistics;
-use telegram::Family;
 use timing::Timing;
 ghost use mathlib.Core.Path.{_≡_};
 ghost use mathlib.Core.Bool.{_&&_};
 ghost use Rattle.md.specs.Uri.{sound};
 ghost use Rattle.md.specs.Md.{sourceUriOf, destinationUriOf};
 ghost use Rattle.session.specs.Session.{waitsForReply, waitsOf};
-ghost use Rattle.session_table.specs.Table.{telegram, kindOf, hearing, notifying, requesting, taking, ended, owing, arriving};
-ghost use Rattle.session_table.specs.Calls.{meaning, Follows};
-ghost use Rattle.messages.specs.Arriving.{heardBy, byIdentifier, outcomeOf, Gives, Receives};
+ghost use Rattle.session_table.specs.Table.{telegram, hearing, notifying, requesting, taking, ended, owing, arriving, kindOf};
+ghost use Rattle.session_table.specs.Calls.{meaning};
+ghost use Rattle.packed.specs.Packed.{tablesOf};
+ghost use Rattle.packed_slots.specs.Calls.{Follows};
+ghost use Rattle.messages.specs.Arriving.{heardBy, byIdentifier, outcomeOf, Gives};
 
 // What a telegram says that passed its checks; its destination URI stands beside it.
 pub struct Message {
@@ -34,122 +32,102 @@ pub struct Message {
 }
 
 // Mn: 8, else the lowest listener that hears it; no session.
-fn notify(t: Tables, m: Message, destination: &[u8]) -> Told
-    ensures { λ r. ⌜ Gives t (notifying (hearing (heardBy m (now (destination .entry))) (t .listeners)) (t .sessions)) r ⌝ }
+fn notify(octets: &[u8; 1280], m: Message, destination: &[u8]) -> Answer
+    ensures { λ r. ⌜ Gives (now (octets .entry)) (notifying (hearing (heardBy m (now (destination .entry))) (tablesOf (now (octets .entry)) .listeners)) (tablesOf (now (octets .entry)) .sessions)) r (now (octets .entry)) ⌝ }
 {
-    let ls = t.listeners;
-    let f = session_table::find_listener(
-        ls,
+    let f = packed_slots::find_listener(
+        octets,
         ListenerSought::Hearing(m.com_id, m.sender),
         destination,
     );
     let Found::At(l) = f else {
-        return Told {
-            tables: t,
-            answer: Answer::Refused(refusal::NO_MATCH, 0),
-        };
+        return Answer::Refused(refusal::NO_MATCH, 0);
     };
-    Told {
-        tables: t,
-        answer: Answer::Notified(l),
-    }
+    Answer::Notified(l)
 }
 
 // Mr: 8 with status -3, 17, 18 with status -4; else the lowest free session, with the user.
-fn request(t: Tables, m: Message, destination: &[u8]) -> Told
-    ensures { λ r. ⌜ Gives t (requesting (hearing (heardBy m (now (destination .entry))) (t .listeners)) (heardBy m (now (destination .entry))) (t .sessions)) r ⌝ }
+fn request(octets: &mut [u8; 1280], m: Message, destination: &[u8]) -> Answer
+    ensures { λ r. ⌜ Gives (now (octets .entry)) (requesting (hearing (heardBy m (now (destination .entry))) (tablesOf (now (octets .entry)) .listeners)) (heardBy m (now (destination .entry))) (tablesOf (now (octets .entry)) .sessions)) r (now (octets .exit)) ⌝ }
 {
-    let ls = t.listeners;
-    let f = session_table::find_listener(
-        ls,
+    let f = packed_slots::find_listener(
+        octets,
         ListenerSought::Hearing(m.com_id, m.sender),
         destination,
     );
     let Found::At(l) = f else {
-        return Told {
-            tables: t,
-            answer: Answer::Refused(refusal::NO_MATCH, -3),
-        };
+        return Answer::Refused(refusal::NO_MATCH, -3);
     };
     let waits = Timing {
         start: m.time,
         timeout: m.timeout,
     };
-    let xs = t.sessions;
     let id = m.id;
-    let o = session_table::open(xs, id, SessionState::WithUser(waits));
-    let ys = o.sessions;
-    let place = o.place;
-    Told {
-        tables: Tables {
-            listeners: ls,
-            sessions: ys,
-        },
-        answer: session_table::requested_as(place, l),
-    }
+    let place = packed_slots::open(octets, id, SessionState::WithUser(waits));
+    session_table::requested_as(place, l)
 }
 
 // Mp, Me and Mc: 19, else the session is freed.
-fn end_session(t: Tables, m: Message, w: Waits) -> Told
-    ensures { λ r. ⌜ Gives t (taking (waitsOf w) ended (byIdentifier m) (t .sessions)) r ⌝ }
+fn end_session(octets: &mut [u8; 1280], m: Message, w: Waits) -> Answer
+    ensures { λ r. ⌜ Gives (now (octets .entry)) (taking (waitsOf w) ended (byIdentifier m) (tablesOf (now (octets .entry)) .sessions)) r (now (octets .exit)) ⌝ }
 {
-    let xs = t.sessions;
     let id = m.id;
-    let f = session_table::find_session(xs, id, Sought::Waiting(w));
+    let f = packed_slots::find_session(octets, id, Sought::Waiting(w));
     let Found::At(k) = f else {
-        return session_table::refuse(t, refusal::NO_SESSION);
+        return Answer::Refused(refusal::NO_SESSION, 0);
     };
     let none = session::no_session();
-    session_table::keep(t, k, none, Answer::Taken(m.status, k))
+    packed_slots::put_session(octets, k, none);
+    Answer::Taken(m.status, k)
 }
 
 // Mq: 19, else the session owes a confirm, with Mq's timeout.
-fn owe_confirm(t: Tables, m: Message) -> Told
-    ensures { λ r. ⌜ Gives t (taking waitsForReply (owing (byIdentifier m)) (byIdentifier m) (t .sessions)) r ⌝ }
+fn owe_confirm(octets: &mut [u8; 1280], m: Message) -> Answer
+    ensures { λ r. ⌜ Gives (now (octets .entry)) (taking waitsForReply (owing (byIdentifier m)) (byIdentifier m) (tablesOf (now (octets .entry)) .sessions)) r (now (octets .exit)) ⌝ }
 {
-    let xs = t.sessions;
     let id = m.id;
-    let f = session_table::find_session(xs, id, Sought::Waiting(Waits::Reply));
+    let f = packed_slots::find_session(octets, id, Sought::Waiting(Waits::Reply));
     let Found::At(k) = f else {
-        return session_table::refuse(t, refusal::NO_SESSION);
+        return Answer::Refused(refusal::NO_SESSION, 0);
     };
     let waits = Timing {
         start: m.time,
         timeout: m.timeout,
     };
-    let x = session_table::session_at(xs, k);
+    let x = packed_slots::session_at(octets, k);
     let own = x.id;
     let owes = Session {
         id: own,
         state: SessionState::OwingConfirm(waits),
     };
-    session_table::keep(t, k, owes, Answer::Taken(m.status, k))
+    packed_slots::put_session(octets, k, owes);
+    Answer::Taken(m.status, k)
 }
 
 // The rule of the telegram's type; checks 2 to 6 let only the six in, and Me is the last.
-fn follow(t: Tables, m: Message, destination: &[u8]) -> Told
-    ensures { λ r. ⌜ Gives t (arriving (kindOf (m .«msg_type»)) (hearing (heardBy m (now (destination .entry))) (t .listeners)) (heardBy m (now (destination .entry))) (t .sessions)) r ⌝ }
+fn follow(octets: &mut [u8; 1280], m: Message, destination: &[u8]) -> Answer
+    ensures { λ r. ⌜ Gives (now (octets .entry)) (arriving (kindOf (m .«msg_type»)) (hearing (heardBy m (now (destination .entry))) (tablesOf (now (octets .entry)) .listeners)) (heardBy m (now (destination .entry))) (tablesOf (now (octets .entry)) .sessions)) r (now (octets .exit)) ⌝ }
 {
     if m.msg_type == session::MN {
-        return notify(t, m, destination);
+        return notify(octets, m, destination);
     }
     if m.msg_type == session::MR {
-        return request(t, m, destination);
+        return request(octets, m, destination);
     }
     if m.msg_type == session::MP {
-        return end_session(t, m, Waits::Reply);
+        return end_session(octets, m, Waits::Reply);
     }
     if m.msg_type == session::MQ {
-        return owe_confirm(t, m);
+        return owe_confirm(octets, m);
     }
     if m.msg_type == session::MC {
-        return end_session(t, m, Waits::Confirm);
+        return end_session(octets, m, Waits::Confirm);
     }
-    end_session(t, m, Waits::Reply)
+    end_session(octets, m, Waits::Reply)
 }
 
 // Both URI fields of a datagram are sound; else refusal 20.
-pub fn has_sound_uris(datagram: &[u8]) -> bool
+fn has_sound_uris(datagram: &[u8]) -> bool
     ensures { λ r. ⌜ r ≡ (sound (sourceUriOf (now (datagram .entry))) && sound (destinationUriOf (now (datagram .entry)))) ⌝ }
 {
     if md::uri::is_sound(md::source_uri(datagram)) {
@@ -159,12 +137,12 @@ pub fn has_sound_uris(datagram: &[u8]) -> bool
 }
 
 // An MD datagram arrives: 2 to 7, 20, then the rule of its type.
-pub fn arrive(t: Tables, a: Arrival, datagram: &[u8]) -> Told
-    ensures { λ r. ⌜ Follows (telegram a (now (datagram .entry))) t r ⌝ }
+pub fn arrive(octets: &mut [u8; 1280], a: Arrival, datagram: &[u8]) -> Answer
+    ensures { λ r. ⌜ Follows (telegram a (now (datagram .entry))) (now (octets .entry)) r (now (octets .exit)) ⌝ }
 {
     let taken = md::take_md(datagram);
     let MdTaken::Header(h) = taken else {
-        return session_table::refuse(t, md::refusal(taken));
+        return Answer::Refused(md::refusal(taken), 0);
     };
     let c = h.common;
     if arrival::is_local(c, a) {
@@ -179,11 +157,11 @@ pub fn arrive(t: Tables, a: Arrival, datagram: &[u8]) -> Told
                 status: h.reply_status,
                 timeout: h.reply_timeout,
             };
-            return follow(t, m, md::destination_uri(datagram));
+            return follow(octets, m, md::destination_uri(datagram));
         }
-        return session_table::refuse(t, refusal::URI);
+        return Answer::Refused(refusal::URI, 0);
     }
-    session_table::refuse(t, refusal::TOPOGRAPHY)
+    Answer::Refused(refusal::TOPOGRAPHY, 0)
 }
 
 // The outcome that an answer counts as: the refusal's number, 0 for whatever was granted.
@@ -201,15 +179,4 @@ pub fn outcome_of(answer: Answer) -> u8
         Answer::Replied => 0,
         Answer::Confirmed => 0,
     }
-}
-
-// An MD datagram arrives, and the caller's statistics are added to.
-pub fn receive(t: Tables, s: &mut Statistics, a: Arrival, datagram: &[u8]) -> Told
-    ensures { λ r. ⌜ Receives a (now (datagram .entry)) t (now (s .entry)) r (now (s .exit)) ⌝ }
-{
-    let r = arrive(t, a, datagram);
-    let answer = r.answer;
-    let outcome = outcome_of(answer);
-    statistics::record(s, Family::Md, outcome);
-    r
 }

@@ -21,10 +21,6 @@ cut-at (suc n) w s (suc i) h =
     cut-at n w (drop w s) i (omega arith)
     ∙ ap (take w) (drop-drop (i * w) w s ∙ ap (λ (k : ℕ). drop k s) (add-comm w (i * w) ∙ sym (suc-mul i w)))
 
--- a part that is lent, by its start and its end
-pub lent-part : (n w i : ℕ) (s : List ℕ) → i < n → take (i * w + w - i * w) (drop (i * w) s) ≡ getD (cut n w s) i []
-lent-part n w i s h = let k : i * w + w - i * w ≡ w = omega arith in ap (λ (j : ℕ). take j (drop (i * w) s)) k ∙ sym (cut-at n w s i h)
-
 -- only the first n parts are looked at
 pub cut-front : (n w : ℕ) (s t : List ℕ) → n * w ≤ length s → cut n w (s ++ t) ≡ cut n w s
 cut-front zero w s t h = refl

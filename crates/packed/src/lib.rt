@@ -10,7 +10,7 @@ ghost use lib.Dec.{eqb};
 ghost use Prim.Native.Nat.{_+_, _≤_};
 ghost use lib.ListN.{length};
 ghost use Rattle.octets.specs.Octets.{part};
-ghost use Rattle.packed.specs.Packed.{listenerOf, stateOf, sessionOf, listenersOf, listenerOctets, stateNumber, timingOf, sessionOctets};
+ghost use Rattle.packed.specs.Packed.{listenerOf, stateOf, sessionOf, listenerOctets, stateNumber, timingOf, sessionOctets};
 
 // The 32 octets of s at k.
 pub fn thirty_two(s: &[u8], k: usize) -> [u8; 32]
@@ -85,23 +85,6 @@ pub fn unpack_session(s: &[u8]) -> Session
         id: id,
         state: state_of(s[0], t),
     }
-}
-
-// Sixteen listeners.
-pub fn unpack_listeners(s: &[u8]) -> [Listener; 16]
-    requires { ⌜ 768 ≤ length (now s) ⌝ }
-    ensures { λ r. ⌜ r ≡ listenersOf (now (s .entry)) ⌝ }
-{
-    let none = session::no_listener();
-    let mut ls = [none; 16];
-    let mut i: usize = 0;
-    while i < 16 {
-        let a = i * 48;
-        let e = a + 48;
-        ls[i] = unpack_listener(&s[a..e]);
-        i += 1;
-    }
-    ls
 }
 
 fn used_number(used: bool) -> u32

@@ -1,2 +1,3 @@
 pub mod Places
 pub mod RuledOut
+pub mod Left

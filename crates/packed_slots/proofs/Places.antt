@@ -1,6 +1,6 @@
 -- One record of the octets: read at its place, and written there with all others as they were.
 -- Assumes nothing.
-use mathlib.Core.Path.{_≡_, refl, sym, ap, ap₂, subst, _∙_}
+use mathlib.Core.Path.{_≡_, refl, sym, ap, ap₂, _∙_}
 use mathlib.Core.Bool.{true, false}
 use mathlib.Core.Option.{none, some}
 use mathlib.Core.List.{List, [], _∷_, _++_, map, append-assoc}
@@ -15,15 +15,12 @@ use Rattle.octets.proofs.Parts.{put-mid}
 use Rattle.octets.proofs.Puts.{put-start}
 use Rattle.tables.proofs.Lists.{set-map}
 use Rattle.tables.specs.Lists.{any, lowest}
-use Rattle.session_table.proofs.Arrays.{inside, stored-outside}
+use Rattle.tables.proofs.Arrays.{inside, stored-outside}
 use Rattle.session.specs.declared.Listener.{Listener}
 use Rattle.session.specs.declared.Session.{Session}
 use Rattle.session.specs.declared.SessionState.{SessionState}
 use Rattle.session.specs.Session.{isFree, has}
-use Rattle.session_table.specs.Calls.{Opens}
 use Rattle.session_table.specs.declared.Place.the-variants.{Slot, InUse, Full}
-use Rattle.session_table.specs.declared.Tables.{Tables}
-use Rattle.session_table.proofs.Places.{in-use, full, slot}
 use Rattle.packed_slots.specs.Slots.{PutsListener, PutsSession, Places}
 use Rattle.packed.specs.Packed.{cut, listenerOf, sessionOf, sessionsOf, tablesOf, listenerOctets, sessionOctets}
 use Rattle.packed.proofs.Coded.{length-cut, cut-at, cut-front}
@@ -167,16 +164,11 @@ module _ (k : ℕ) (s : List ℕ) (long : length s ≡ 1280) where
 
 module _ (id : List ℕ) (state : SessionState) (o : List ℕ) where
   pub places-in-use : any (has id) (tablesOf o .sessions) ≡ true → Places id state o InUse o
-  places-in-use e = record { opens = in-use id state (tablesOf o .sessions) e; listeners = refl; writes = refl }
+  places-in-use e = record { place = rw e; means = refl; writes = refl }
 
   pub places-full : any (has id) (tablesOf o .sessions) ≡ false → lowest (λ x. isFree (x .state)) (tablesOf o .sessions) ≡ none → Places id state o Full o
-  places-full e l = record { opens = full id state (tablesOf o .sessions) e l; listeners = refl; writes = refl }
+  places-full e l = record { place = rw (e, l); means = refl; writes = refl }
 
   pub places-slot : (k : ℕ) (o′ : List ℕ) → any (has id) (tablesOf o .sessions) ≡ false → lowest (λ x. isFree (x .state)) (tablesOf o .sessions) ≡ some k
       → PutsSession k (record { id = id; state = state }) o o′ → Places id state o (Slot k) o′
-  places-slot k o′ e l p =
-      record {
-        opens = subst (λ (xs : List Session). Opens id state (tablesOf o .sessions) (record { sessions = xs; place = Slot k })) (sym (ap (λ (t : Tables). t .sessions) (p .means))) (slot id state (tablesOf o .sessions) k e l);
-        listeners = ap (λ (t : Tables). t .listeners) (p .means);
-        writes = p .written;
-      }
+  places-slot k o′ e l p = record { place = rw (e, l); means = p .means; writes = p .written }

@@ -8,7 +8,9 @@ use lib.ListN.{set}
 use Rattle.session.specs.declared.Listener.{Listener}
 use Rattle.session.specs.declared.Session.{Session}
 use Rattle.session.specs.declared.SessionState.{SessionState}
-use Rattle.session_table.specs.Calls.{Opens}
+use Rattle.session.specs.Session.{isFree, has}
+use Rattle.tables.specs.Lists.{any, lowest}
+use Rattle.session_table.specs.Calls.{placeOf, placed}
 use Rattle.session_table.specs.declared.Place.{Place}
 use Rattle.session_table.specs.declared.Place.the-variants.{Slot, InUse, Full}
 use Rattle.session_table.specs.declared.ListenerSought.{ListenerSought}
@@ -32,9 +34,10 @@ placedIn InUse x octets = octets
 placedIn Full x octets = octets
 placedIn (Slot k) x octets = putSession k x octets
 
+-- its place, the tables that the octets mean after it, and the octets
 pub record Places (id : List ℕ) (state : SessionState) (octets : List ℕ) (p : Place) (octets′ : List ℕ) : Type 0 where
-  pub opens : Opens id state (tablesOf octets .sessions) (record { sessions = tablesOf octets′ .sessions; place = p })
-  pub listeners : tablesOf octets′ .listeners ≡ tablesOf octets .listeners
+  pub place : p ≡ placeOf (any (has id) (tablesOf octets .sessions)) (lowest (λ x. isFree (x .state)) (tablesOf octets .sessions))
+  pub means : tablesOf octets′ ≡ record { listeners = tablesOf octets .listeners; sessions = placed p (record { id = id; state = state }) (tablesOf octets .sessions) }
   pub writes : octets′ ≡ placedIn p (record { id = id; state = state }) octets
 
 -- ---- what rules a packed record out before all of it is read

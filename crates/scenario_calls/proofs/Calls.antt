@@ -27,12 +27,7 @@ use Rattle.scenario_data.specs.declared.Outcome.{Outcome as DataOutcome}
 use Rattle.scenario_data.specs.Data as description
 use Rattle.statistics.specs.declared.Statistics.{Statistics}
 use Rattle.statistics.specs.Statistics.{noStatistics}
-use Rattle.session.specs.declared.Listener.{Listener}
-use Rattle.session.specs.declared.Session.{Session}
-use Rattle.session.specs.Listener.{freeListener}
-use Rattle.session.specs.Session.{freeSession}
 use Rattle.subscription.specs.declared.Subscription.{Subscription}
-use Rattle.session_table.specs.declared.Tables.{Tables}
 use Rattle.scenario_md.specs.Lines.{askedOf}
 use Rattle.scenario_md.specs.declared.Outcome.{Outcome as MessageOutcome}
 use Rattle.scenario_md.specs.Served as md
@@ -311,12 +306,12 @@ module _ (x : State) (ds st s : List ℕ) where
   described a =
       record { words = a .words; state = ap (λ (n : ℕ). withNumbers n x) (a .counted); descriptions = a .lent; store = refl }
 
-  pub messaged : {at : ℕ} {o o′ : List ℕ} {q : MessageOutcome} → md.Answered (askedOf (x .local) s) (x .tables) (x .statistics) at o q o′ → Leaves (messageEffect x ds st s) at o (record { state = withTables (q .tables) (q .statistics) x; at = q .at }) ds st o′
+  pub messaged : {at : ℕ} {t o o′ : List ℕ} {q : MessageOutcome} → md.Answered (askedOf (x .local) s) (x .tables) (x .statistics) at o q t o′ → Leaves (messageEffect x ds st s) at o (record { state = withTables t (q .statistics) x; at = q .at }) ds st o′
   unfolding messageEffect
   messaged a =
       record {
         words = a .words;
-        state = ap₂ (λ (t : Tables) (n : Statistics). withTables t n x) (a .tables) (a .statistics);
+        state = ap₂ (λ (t : List ℕ) (n : Statistics). withTables t n x) (a .leaves) (a .statistics);
         descriptions = refl;
         store = refl;
       }
@@ -341,11 +336,10 @@ slots-are {t} {rs} {m} x =
     ap (λ (r : List Subscription). record { records = r; lent = t .lent; octets = t .octets }) (x .0)
     ∙ ap₂ (λ (l o : ℕ). record { records = rs; lent = l; octets = o }) (x .1) (x .2)
 
-pub started : {t : Slots} {u : Tables} {n : Statistics} → (t .records ≡ replicate 40 freeRecord) × (t .lent ≡ 32) × (t .octets ≡ 45824) → (u .listeners ≡ replicate 16 freeListener) × (u .sessions ≡ replicate 16 freeSession) → n ≡ noStatistics → record { local = record { «etb_topo_cnt» = 0; «op_trn_topo_cnt» = 0 }; held = Nothing; numbers = 0; slots = t; tables = u; statistics = n } ≡ atStart
+pub started : {t : Slots} {n : Statistics} → (t .records ≡ replicate 40 freeRecord) × (t .lent ≡ 32) × (t .octets ≡ 45824) → n ≡ noStatistics → record { local = record { «etb_topo_cnt» = 0; «op_trn_topo_cnt» = 0 }; held = Nothing; numbers = 0; slots = t; tables = replicate 1280 0; statistics = n } ≡ atStart
 unfolding atStart
-started {u = u} x y z =
-    ap₂ (λ (t : Slots) (n : Statistics). record { local = record { «etb_topo_cnt» = 0; «op_trn_topo_cnt» = 0 }; held = Nothing; numbers = 0; slots = t; tables = u; statistics = n }) (slots-are x) z
-    ∙ ap₂ (λ (l : List Listener) (u : List Session). record { local = record { «etb_topo_cnt» = 0; «op_trn_topo_cnt» = 0 }; held = Nothing; numbers = 0; slots = record { records = replicate 40 freeRecord; lent = 32; octets = 45824 }; tables = record { listeners = l; sessions = u }; statistics = noStatistics }) (y .0) (y .1)
+started x z =
+    ap₂ (λ (t : Slots) (n : Statistics). record { local = record { «etb_topo_cnt» = 0; «op_trn_topo_cnt» = 0 }; held = Nothing; numbers = 0; slots = t; tables = replicate 1280 0; statistics = n }) (slots-are x) z
 
 -- by the verb
 module _ (x : State) (ds st s : List ℕ) where

@@ -9,9 +9,7 @@ use Rattle.topography.specs.declared.TopoCounts.{TopoCounts}
 use Rattle.statistics.specs.declared.Statistics.{Statistics}
 use Rattle.statistics.specs.Statistics.{noStatistics}
 use Rattle.subscription.specs.Record.{freeRecord}
-use Rattle.session.specs.Listener.{freeListener}
-use Rattle.session.specs.Session.{freeSession}
-use Rattle.session_table.specs.declared.Tables.{Tables}
+use Rattle.packed.specs.Packed.{tablesOf}
 use Rattle.line.specs.declared.Field.{Field}
 use Rattle.line.specs.Line.{readTo, verbIs, ends, withEnd, withNumber, eight}
 use Rattle.answer.specs.Answer.{ascii, word, Puts, Answers}
@@ -28,8 +26,8 @@ use Rattle.scenario_calls.specs.declared.State.{State}
 use Rattle.scenario_calls.specs.declared.Outcome.{Outcome}
 use Rattle.scenario_calls.specs.Counters.{statisticsWords}
 
--- before the first line: counters 0 and 0, no publication, an empty description run; 32 slots lent of 40 free ones and 1432 octets for each; 16 free
--- listeners and sessions; nothing counted
+-- before the first line: counters 0 and 0, no publication, an empty description run; 32 slots lent of 40 free ones and 1432 octets for each; the octets of
+-- 16 free listeners and sessions, all zero; nothing counted
 unfoldable pub atStart : State
 atStart =
     record {
@@ -37,7 +35,7 @@ atStart =
       held = Nothing;
       numbers = 0;
       slots = record { records = replicate 40 freeRecord; lent = 32; octets = 45824 };
-      tables = record { listeners = replicate 16 freeListener; sessions = replicate 16 freeSession };
+      tables = replicate 1280 0;
       statistics = noStatistics;
     }
 
@@ -73,7 +71,7 @@ abbrev pub withSlots : Slots → Statistics → State → State
 withSlots t n x =
     record { local = x .local; held = x .held; numbers = x .numbers; slots = t; tables = x .tables; statistics = n }
 
-abbrev pub withTables : Tables → Statistics → State → State
+abbrev pub withTables : List ℕ → Statistics → State → State
 withTables t n x =
     record { local = x .local; held = x .held; numbers = x .numbers; slots = x .slots; tables = t; statistics = n }
 
@@ -113,8 +111,8 @@ module _ (x : State) (descriptions store : List ℕ) where
   messageEffect s =
       let asked = askedOf (x .local) s in
       saying
-      (md.wordsOf asked (x .tables))
-      (withTables (md.tablesAfter asked (x .tables)) (md.statisticsOf asked (x .tables) (x .statistics)) x)
+      (md.wordsOf asked (tablesOf (x .tables)))
+      (withTables (md.octetsLeft asked (x .tables)) (md.statisticsOf asked (tablesOf (x .tables)) (x .statistics)) x)
       descriptions
       store
 

@@ -5,7 +5,6 @@ mod counters;
 use scenario_pd_look::Slots;
 use scenario_wire::publications;
 use scenario_wire::publications::Held;
-use session_table::Tables;
 use statistics::Statistics;
 use topography::TopoCounts;
 ghost use mathlib.Core.Path.{_≡_};
@@ -14,14 +13,14 @@ ghost use Prim.Native.Nat.{ℕ, _<_, _≤_};
 ghost use lib.ListN.{length};
 ghost use Rattle.scenario_calls.specs.Calls.{atStart, localEffect, statsEffect, publicationEffect, dataEffect, processEffect, messageEffect, plainEffect, describedEffect, callEffect, effectOf, Leaves, Answered};
 
-// The local topography counters, the publication, how many numbers the description run has, subscriptions, listeners and
-// sessions, and statistics.
+// The local topography counters, the publication, how many numbers the description run has, subscriptions, the octets of
+// listeners and sessions, and statistics.
 pub struct State {
     pub local: TopoCounts,
     pub held: Held,
     pub numbers: usize,
     pub slots: Slots,
-    pub tables: Tables,
+    pub tables: [u8; 1280],
     pub statistics: Statistics,
 }
 
@@ -44,7 +43,7 @@ pub fn start() -> State
         held: Held::Nothing,
         numbers: 0,
         slots: scenario_pd::start(),
-        tables: scenario_md::start(),
+        tables: [0u8; 1280],
         statistics: statistics::none(),
     }
 }
@@ -150,11 +149,10 @@ fn process_data(state: State, store: &mut [u8], s: &[u8], out: &mut [u8], at: us
 fn message_data(state: State, s: &[u8], out: &mut [u8], at: usize) -> Outcome
     ensures { λ r. ⌜ ((run octets : List ℕ) → Leaves (messageEffect state run octets (now (s .entry))) at (now (out .entry)) r run octets (now (out .exit))) ⌝ }
 {
-    let before = state.tables;
+    let mut tables = state.tables;
     let local = state.local;
     let counted = state.statistics;
-    let o = scenario_md::answer(before, counted, local, s, out, at);
-    let tables = o.tables;
+    let o = scenario_md::answer(&mut tables, counted, local, s, out, at);
     let statistics = o.statistics;
     let mut after = state;
     after.tables = tables;

@@ -1,66 +1,23 @@
-// The calls over listeners and sessions.
+// The calls over listeners and sessions. Each answers the place behind its answer; 0 where the line is none of these.
 use address::SenderRange;
 use arrival::Arrival;
-use session_table::Tables;
-use session_table::Told;
 use statistics::Statistics;
+use telegram::Family;
 use topography::TopoCounts;
-ghost use mathlib.Core.Path.{_≡_};
 ghost use mathlib.Core.Option.{some};
-ghost use lib.ListN.{replicate};
-ghost use Rattle.session.specs.Listener.{freeListener};
-ghost use Rattle.session.specs.Session.{freeSession};
 ghost use Rattle.session_table.specs.Table.{telegram};
 ghost use Rattle.scenario_md.specs.Lines.{calls, listenAsked, unlistenAsked, callAsked, mdAsked, replyAsked, confirmAsked, checkAsked, sessionAsked, lookAsked, exchangeAsked, userAsked, askedOf};
-ghost use Rattle.scenario_md.specs.Served.{Tells, Serves, Answered};
+ghost use Rattle.scenario_md.specs.Served.{Serves, Answered};
 
-// The tables after a user's call, and the place behind its answer; 0 where the line is none of these.
-pub struct Called {
-    pub tables: Tables,
-    pub at: usize,
-}
-
-// The same with the statistics.
+// The statistics after a call, and the place behind its answer.
 pub struct Outcome {
-    pub tables: Tables,
     pub statistics: Statistics,
     pub at: usize,
 }
 
-// Before the first call: sixteen listeners and sixteen sessions, all free.
-pub fn start() -> Tables
-    ensures { λ r. ⌜ (r .listeners ≡ replicate 16 freeListener) × (r .sessions ≡ replicate 16 freeSession) ⌝ }
-{
-    let l = session::no_listener();
-    let x = session::no_session();
-    Tables {
-        listeners: [l; 16],
-        sessions: [x; 16],
-    }
-}
-
-// A line of another form: nothing changes.
-fn bad(t: Tables) -> Called
-    ensures { λ r. ⌜ r ≡ record { tables = t; at = 0 } ⌝ }
-{
-    Called { tables: t, at: 0 }
-}
-
-// What a user's call answers.
-fn tell(told: Told, out: &mut [u8], at: usize) -> Called
-    ensures { λ r. ⌜ Tells told at (now (out .entry)) r (now (out .exit)) ⌝ }
-{
-    let t = told.tables;
-    let a = told.answer;
-    Called {
-        tables: t,
-        at: scenario_md_words::put_answer(out, at, a),
-    }
-}
-
 // `listen COMID START END URI`
-fn listen(t: Tables, s: &[u8], out: &mut [u8], at: usize) -> Called
-    ensures { λ r. ⌜ Serves (listenAsked (now (s .entry))) t at (now (out .entry)) r (now (out .exit)) ⌝ }
+fn listen(tables: &mut [u8; 1280], s: &[u8], out: &mut [u8], at: usize) -> usize
+    ensures { λ r. ⌜ Serves (listenAsked (now (s .entry))) (now (tables .entry)) at (now (out .entry)) r (now (tables .exit)) (now (out .exit)) ⌝ }
 {
     let mut uri = [0u8; 32];
     let com_id = line::number(s, line::behind(6), 8);
@@ -72,135 +29,127 @@ fn listen(t: Tables, s: &[u8], out: &mut [u8], at: usize) -> Called
             start: line::word(start),
             end: line::word(end),
         };
-        let told = sessions::listen(t, line::word(com_id), senders, uri);
-        return tell(told, out, at);
+        let a = sessions::listen(tables, line::word(com_id), senders, uri);
+        return scenario_md_words::put_answer(out, at, a);
     }
-    bad(t)
+    0
 }
 
 // `unlisten K`
-fn unlisten(t: Tables, s: &[u8], out: &mut [u8], at: usize) -> Called
-    ensures { λ r. ⌜ Serves (unlistenAsked (now (s .entry))) t at (now (out .entry)) r (now (out .exit)) ⌝ }
+fn unlisten(tables: &mut [u8; 1280], s: &[u8], out: &mut [u8], at: usize) -> usize
+    ensures { λ r. ⌜ Serves (unlistenAsked (now (s .entry))) (now (tables .entry)) at (now (out .entry)) r (now (tables .exit)) (now (out .exit)) ⌝ }
 {
     let k = line::number(s, line::behind(8), 8);
     if line::is_end(s, k) {
-        let told = sessions::unlisten(t, line::word(k) as usize);
-        return tell(told, out, at);
+        let a = sessions::unlisten(tables, line::word(k) as usize);
+        return scenario_md_words::put_answer(out, at, a);
     }
-    bad(t)
+    0
 }
 
 // `call ID TIMEOUT NOW`
-fn call(t: Tables, s: &[u8], out: &mut [u8], at: usize) -> Called
-    ensures { λ r. ⌜ Serves (callAsked (now (s .entry))) t at (now (out .entry)) r (now (out .exit)) ⌝ }
+fn call(tables: &mut [u8; 1280], s: &[u8], out: &mut [u8], at: usize) -> usize
+    ensures { λ r. ⌜ Serves (callAsked (now (s .entry))) (now (tables .entry)) at (now (out .entry)) r (now (tables .exit)) (now (out .exit)) ⌝ }
 {
     let mut id = [0u8; 16];
     let field = line::octets_field(s, line::behind(4), &mut id);
     let timeout = line::number(s, field, 8);
     let time = line::number(s, timeout, 16);
     if line::is_end(s, time) {
-        let told = sessions::call(t, id, line::word(timeout), time.value);
-        return tell(told, out, at);
+        let a = sessions::call(tables, id, line::word(timeout), time.value);
+        return scenario_md_words::put_answer(out, at, a);
     }
-    bad(t)
+    0
 }
 
 // `reply K TYPE TIMEOUT NOW`
-fn reply(t: Tables, s: &[u8], out: &mut [u8], at: usize) -> Called
-    ensures { λ r. ⌜ Serves (replyAsked (now (s .entry))) t at (now (out .entry)) r (now (out .exit)) ⌝ }
+fn reply(tables: &mut [u8; 1280], s: &[u8], out: &mut [u8], at: usize) -> usize
+    ensures { λ r. ⌜ Serves (replyAsked (now (s .entry))) (now (tables .entry)) at (now (out .entry)) r (now (tables .exit)) (now (out .exit)) ⌝ }
 {
     let k = line::number(s, line::behind(5), 8);
     let kind = line::number(s, k, 4);
     let timeout = line::number(s, kind, 8);
     let time = line::number(s, timeout, 16);
     if line::is_end(s, time) {
-        let told = sessions::reply(
-            t,
+        let a = sessions::reply(
+            tables,
             line::word(k) as usize,
             line::half(kind),
             line::word(timeout),
             time.value,
         );
-        return tell(told, out, at);
+        return scenario_md_words::put_answer(out, at, a);
     }
-    bad(t)
+    0
 }
 
 // `confirm K NOW`
-fn confirm(t: Tables, s: &[u8], out: &mut [u8], at: usize) -> Called
-    ensures { λ r. ⌜ Serves (confirmAsked (now (s .entry))) t at (now (out .entry)) r (now (out .exit)) ⌝ }
+fn confirm(tables: &mut [u8; 1280], s: &[u8], out: &mut [u8], at: usize) -> usize
+    ensures { λ r. ⌜ Serves (confirmAsked (now (s .entry))) (now (tables .entry)) at (now (out .entry)) r (now (tables .exit)) (now (out .exit)) ⌝ }
 {
     let k = line::number(s, line::behind(7), 8);
     let time = line::number(s, k, 16);
     if line::is_end(s, time) {
-        let told = sessions::confirm(t, line::word(k) as usize);
-        return tell(told, out, at);
+        let a = sessions::confirm(tables, line::word(k) as usize);
+        return scenario_md_words::put_answer(out, at, a);
     }
-    bad(t)
+    0
 }
 
 // `mdcheck NOW`
-fn check(t: Tables, s: &[u8], out: &mut [u8], at: usize) -> Called
-    ensures { λ r. ⌜ Serves (checkAsked (now (s .entry))) t at (now (out .entry)) r (now (out .exit)) ⌝ }
+fn check(tables: &mut [u8; 1280], s: &[u8], out: &mut [u8], at: usize) -> usize
+    ensures { λ r. ⌜ Serves (checkAsked (now (s .entry))) (now (tables .entry)) at (now (out .entry)) r (now (tables .exit)) (now (out .exit)) ⌝ }
 {
     let time = line::number(s, line::behind(7), 16);
     if line::is_end(s, time) {
-        let checked = sessions::time_check(t, time.value);
-        let after = checked.tables;
-        let codes = checked.codes;
-        return Called {
-            tables: after,
-            at: scenario_md_words::put_codes(out, at, codes),
-        };
+        let codes = sessions::time_check(tables, time.value);
+        return scenario_md_words::put_codes(out, at, codes);
     }
-    bad(t)
+    0
 }
 
 // `session K`
-fn session(t: Tables, s: &[u8], out: &mut [u8], at: usize) -> Called
-    ensures { λ r. ⌜ Serves (sessionAsked (now (s .entry))) t at (now (out .entry)) r (now (out .exit)) ⌝ }
+fn session(tables: &mut [u8; 1280], s: &[u8], out: &mut [u8], at: usize) -> usize
+    ensures { λ r. ⌜ Serves (sessionAsked (now (s .entry))) (now (tables .entry)) at (now (out .entry)) r (now (tables .exit)) (now (out .exit)) ⌝ }
 {
     let k = line::number(s, line::behind(7), 8);
     if line::is_end(s, k) {
-        return Called {
-            tables: t,
-            at: scenario_md_words::put_place(out, at, t, line::word(k) as usize),
-        };
+        let slot = line::word(k) as usize;
+        let x = packed_slots::session_at(tables, slot);
+        return scenario_md_words::put_slot(out, at, slot, x);
     }
-    bad(t)
+    0
 }
 
+// An MD datagram arrives, and is counted.
 fn receive(
-    t: Tables,
+    tables: &mut [u8; 1280],
     statistics: Statistics,
     a: Arrival,
     datagram: &[u8],
     out: &mut [u8],
     at: usize,
 ) -> Outcome
-    ensures { λ r. ⌜ Answered (some (calls (telegram a (now (datagram .entry))))) t statistics at (now (out .entry)) r (now (out .exit)) ⌝ }
+    ensures { λ r. ⌜ Answered (some (calls (telegram a (now (datagram .entry))))) (now (tables .entry)) statistics at (now (out .entry)) r (now (tables .exit)) (now (out .exit)) ⌝ }
 {
-    let m = lent::receive_message(t, statistics, a, datagram);
-    let after = m.tables;
-    let counted = m.statistics;
-    let said = m.answer;
+    let said = messages::arrive(tables, a, datagram);
+    let outcome = messages::outcome_of(said);
     Outcome {
-        tables: after,
-        statistics: counted,
+        statistics: statistics::add(statistics, Family::Md, outcome),
         at: scenario_md_words::put_heard(out, at, said),
     }
 }
 
 // `md SENDER DEST NOW OCTETS`
 fn md(
-    t: Tables,
+    tables: &mut [u8; 1280],
     statistics: Statistics,
     local: TopoCounts,
     s: &[u8],
     out: &mut [u8],
     at: usize,
 ) -> Outcome
-    ensures { λ r. ⌜ Answered (mdAsked local (now (s .entry))) t statistics at (now (out .entry)) r (now (out .exit)) ⌝ }
+    ensures { λ r. ⌜ Answered (mdAsked local (now (s .entry))) (now (tables .entry)) statistics at (now (out .entry)) r (now (tables .exit)) (now (out .exit)) ⌝ }
 {
     let sender = line::number(s, line::behind(2), 8);
     let destination = line::number(s, sender, 8);
@@ -209,7 +158,6 @@ fn md(
     let d = line::octets(s, time, &mut data);
     if d.is_bad {
         return Outcome {
-            tables: t,
             statistics: statistics,
             at: 0,
         };
@@ -221,70 +169,67 @@ fn md(
         time: time.value,
         local: local,
     };
-    receive(t, statistics, a, &data[..n], out, at)
+    receive(tables, statistics, a, &data[..n], out, at)
 }
 
 // A line that looks at sessions answered.
-fn look(t: Tables, s: &[u8], out: &mut [u8], at: usize) -> Called
-    ensures { λ r. ⌜ Serves (lookAsked (now (s .entry))) t at (now (out .entry)) r (now (out .exit)) ⌝ }
+fn look(tables: &mut [u8; 1280], s: &[u8], out: &mut [u8], at: usize) -> usize
+    ensures { λ r. ⌜ Serves (lookAsked (now (s .entry))) (now (tables .entry)) at (now (out .entry)) r (now (tables .exit)) (now (out .exit)) ⌝ }
 {
     if line::is_verb(s, b"mdcheck") {
-        return check(t, s, out, at);
+        return check(tables, s, out, at);
     }
     if line::is_verb(s, b"session") {
-        return session(t, s, out, at);
+        return session(tables, s, out, at);
     }
-    bad(t)
+    0
 }
 
 // The same, or one that opens, answers or confirms a session.
-fn exchange(t: Tables, s: &[u8], out: &mut [u8], at: usize) -> Called
-    ensures { λ r. ⌜ Serves (exchangeAsked (now (s .entry))) t at (now (out .entry)) r (now (out .exit)) ⌝ }
+fn exchange(tables: &mut [u8; 1280], s: &[u8], out: &mut [u8], at: usize) -> usize
+    ensures { λ r. ⌜ Serves (exchangeAsked (now (s .entry))) (now (tables .entry)) at (now (out .entry)) r (now (tables .exit)) (now (out .exit)) ⌝ }
 {
     if line::is_verb(s, b"call") {
-        return call(t, s, out, at);
+        return call(tables, s, out, at);
     }
     if line::is_verb(s, b"reply") {
-        return reply(t, s, out, at);
+        return reply(tables, s, out, at);
     }
     if line::is_verb(s, b"confirm") {
-        return confirm(t, s, out, at);
+        return confirm(tables, s, out, at);
     }
-    look(t, s, out, at)
+    look(tables, s, out, at)
 }
 
 // The same, or one over listeners: a line of one of the user's verbs answered.
-fn user(t: Tables, s: &[u8], out: &mut [u8], at: usize) -> Called
-    ensures { λ r. ⌜ Serves (userAsked (now (s .entry))) t at (now (out .entry)) r (now (out .exit)) ⌝ }
+fn user(tables: &mut [u8; 1280], s: &[u8], out: &mut [u8], at: usize) -> usize
+    ensures { λ r. ⌜ Serves (userAsked (now (s .entry))) (now (tables .entry)) at (now (out .entry)) r (now (tables .exit)) (now (out .exit)) ⌝ }
 {
     if line::is_verb(s, b"listen") {
-        return listen(t, s, out, at);
+        return listen(tables, s, out, at);
     }
     if line::is_verb(s, b"unlisten") {
-        return unlisten(t, s, out, at);
+        return unlisten(tables, s, out, at);
     }
-    exchange(t, s, out, at)
+    exchange(tables, s, out, at)
 }
 
 // A line of one of these verbs answered.
 pub fn answer(
-    t: Tables,
+    tables: &mut [u8; 1280],
     statistics: Statistics,
     local: TopoCounts,
     s: &[u8],
     out: &mut [u8],
     at: usize,
 ) -> Outcome
-    ensures { λ r. ⌜ Answered (askedOf local (now (s .entry))) t statistics at (now (out .entry)) r (now (out .exit)) ⌝ }
+    ensures { λ r. ⌜ Answered (askedOf local (now (s .entry))) (now (tables .entry)) statistics at (now (out .entry)) r (now (tables .exit)) (now (out .exit)) ⌝ }
 {
     if line::is_verb(s, b"md") {
-        return md(t, statistics, local, s, out, at);
+        return md(tables, statistics, local, s, out, at);
     }
-    let c = user(t, s, out, at);
-    let after = c.tables;
     Outcome {
-        tables: after,
         statistics: statistics,
-        at: c.at,
+        at: user(tables, s, out, at),
     }
 }

@@ -6,18 +6,15 @@ use mathlib.Core.List.{List}
 use Prim.Native.Nat.{ℕ, _<_, _≤_}
 use borrow.Author.Tests.{lt-ltb, le-ltb}
 use lib.IntN.{ℤ}
-use lib.ListN.{length, getD}
 use mir.Syntax.{w32}
 use mir.Val.{SFits, ofZ, toZ}
 use mir.Facts.{toZ-ofZ}
 use Rattle.octets.specs.Octets.{unsigned}
 use Rattle.refusal.specs.Refusal.{noSlot}
-use Rattle.answer.specs.Answer.{Puts, word, number, decimal, refused}
+use Rattle.answer.specs.Answer.{Puts, number, refused}
 use Rattle.answer.proofs.Rooms.{pieces}
 use Rattle.session.specs.declared.Session.{Session}
-use Rattle.session.specs.Session.{freeSession}
 use Rattle.session_table.specs.Table.{taken}
-use Rattle.session_table.proofs.Arrays.{blankSession, inside}
 use Rattle.scenario_md_words.specs.Words.{answerWords, recordWords, slotWords}
 
 module _ {at r : ℕ} {o o′ : List ℕ} where
@@ -27,14 +24,9 @@ module _ {at r : ℕ} {o o′ : List ℕ} where
   pub taken-put : (x : ℤ) (k : ℕ) → SFits w32 x → Puts (answerWords (taken (toZ w32 (ofZ w32 x)) k)) at o r o′ → Puts (answerWords (taken x k)) at o r o′
   taken-put x k f p = pieces (answerWords (taken x k)) (ap (λ (z : ℤ). answerWords (taken z k)) (toZ-ofZ f)) p
 
-  pub slot-put : (xs : List Session) (k : ℕ) → length xs ≡ 16 → k < 16 → Puts (recordWords ((getD xs k blankSession) .id) ((getD xs k blankSession) .state)) at o r o′ → Puts (slotWords k xs) at o r o′
-  slot-put xs k l h p =
-      let x = getD xs k freeSession in
-      pieces (slotWords k xs)
-      (ap (λ (y : Session). recordWords (y .id) (y .state)) (inside xs 16 k blankSession freeSession l h)
-      ∙ sym (ap (λ (b : Bool). cond b (recordWords (x .id) (x .state)) (refused noSlot)) (lt-ltb k 16 h))) p
+  module _ (k : ℕ) (x : Session) where
+    pub slot-put : k < 16 → Puts (recordWords (x .id) (x .state)) at o r o′ → Puts (slotWords k x) at o r o′
+    slot-put h p = pieces (slotWords k x) (sym (ap (λ (b : Bool). cond b (recordWords (x .id) (x .state)) (refused noSlot)) (lt-ltb k 16 h))) p
 
-  pub no-slot-put : (xs : List Session) (k : ℕ) → 16 ≤ k → Puts (refused noSlot) at o r o′ → Puts (slotWords k xs) at o r o′
-  no-slot-put xs k h p =
-      let x = getD xs k freeSession in
-      pieces (slotWords k xs) (sym (ap (λ (b : Bool). cond b (recordWords (x .id) (x .state)) (refused noSlot)) (le-ltb k 16 h))) p
+    pub no-slot-put : 16 ≤ k → Puts (refused noSlot) at o r o′ → Puts (slotWords k x) at o r o′
+    no-slot-put h p = pieces (slotWords k x) (sym (ap (λ (b : Bool). cond b (recordWords (x .id) (x .state)) (refused noSlot)) (le-ltb k 16 h))) p

@@ -4,7 +4,6 @@ use mathlib.Core.Bool.{cond}
 use mathlib.Core.List.{List, [], _∷_, _++_}
 use lib.Dec.{ltb}
 use lib.IntN.{ℤ}
-use lib.ListN.{getD}
 use Rattle.octets.specs.Octets.{unsigned}
 use Rattle.refusal.specs.Refusal.{noSlot}
 use Rattle.timing.specs.declared.Timing.{Timing}
@@ -12,7 +11,6 @@ use Rattle.answer.specs.Answer.{ascii, spaced, word, wordOf, decimal, number, o
 use Rattle.session.specs.declared.Session.{Session}
 use Rattle.session.specs.declared.SessionState.{SessionState}
 use Rattle.session.specs.declared.SessionState.the-variants.{Free, WaitingForReply, OwingConfirm, WithUser, WaitingForConfirm}
-use Rattle.session.specs.Session.{freeSession}
 use Rattle.session_table.specs.Table as table
 use Rattle.session_table.specs.Table.{Answer, listening, freed, opened, notified, requested, taken, replied, confirmed, codes}
 
@@ -64,7 +62,5 @@ recordWords id (WithUser t) = usedWords id (ascii "user") t
 recordWords id (WaitingForConfirm t) = usedWords id (ascii "confirm") t
 
 -- the record of a session slot below 16; else 10
-abbrev pub slotWords : ℕ → List Session → List (List ℕ)
-slotWords k xs =
-    let x = getD xs k freeSession in
-    cond (ltb k 16) (recordWords (x .id) (x .state)) (refused noSlot)
+abbrev pub slotWords : ℕ → Session → List (List ℕ)
+slotWords k x = cond (ltb k 16) (recordWords (x .id) (x .state)) (refused noSlot)

@@ -2,7 +2,6 @@
 use session::Session;
 use session::SessionState;
 use session_table::Answer;
-use session_table::Tables;
 use timing::Timing;
 ghost use Rattle.answer.specs.Answer.{Puts};
 ghost use Rattle.session_table.specs.Calls.{meaning};
@@ -107,13 +106,11 @@ fn put_session(out: &mut [u8], at: usize, x: Session) -> usize
     }
 }
 
-// The record of a session slot; 10 where there is no such slot.
-pub fn put_place(out: &mut [u8], at: usize, t: Tables, k: usize) -> usize
-    ensures { λ r. ⌜ Puts (slotWords k (t .sessions)) at (now (out .entry)) r (now (out .exit)) ⌝ }
+// The record of session slot k; 10 where there is no such slot.
+pub fn put_slot(out: &mut [u8], at: usize, k: usize, x: Session) -> usize
+    ensures { λ r. ⌜ Puts (slotWords k x) at (now (out .entry)) r (now (out .exit)) ⌝ }
 {
     if k < 16 {
-        let xs = t.sessions;
-        let x = xs[k];
         return put_session(out, at, x);
     }
     answer::refused(out, at, refusal::NO_SLOT)

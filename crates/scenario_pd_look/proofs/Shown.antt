@@ -19,7 +19,7 @@ use Rattle.subscription_decisions.specs.declared.Reading.{Reading}
 use Rattle.subscription_decisions.specs.declared.Reading.the-variants.{Shows, Refused}
 use Rattle.subscriptions.specs.Read.{Reads}
 use Rattle.subscription_decisions.specs.Read.{readBy, shown, octetsOf}
-use Rattle.subscriptions.proofs.Slot.{past}
+use Rattle.tables.proofs.Arrays.{past}
 use Rattle.subscriptions.proofs.Viewing.{reads}
 use Rattle.subscription_decisions.proofs.Showing.{record-shows}
 use Rattle.lent.specs.Lent.{lentTable}
@@ -73,7 +73,3 @@ words-shown n k rs st set v d = go (readBy (fits (length (take n rs)) (length st
 
 pub words-refused : (n k : ℕ) (rs : List Subscription) (st set : List ℕ) (x : ℕ) → Reads k (take n rs) st (Refused x) → refusedWords x ≡ answerWords (step (read k set) (lentTable n rs st) .answer)
 words-refused n k rs st set x d = ap answerWords (d .answers set)
-
--- behind an array's end
-pub outside : {X : Type 0} (xs : List X) (n k : ℕ) (d : X) → length xs ≡ n → n ≤ k → d ≡ getD xs k d
-outside xs n k d l h = sym (past xs k d (omega arith))

@@ -7,7 +7,7 @@ ghost use lib.IntN.{pos};
 ghost use Rattle.md.specs.Uri.{equal};
 ghost use Rattle.timing.specs.Timing.{timeUp};
 ghost use Rattle.session.specs.Listener.{freeListener, hears, holds};
-ghost use Rattle.session.specs.Session.{freeSession, isFree, waitsForReply, owesConfirm, isWithUser, waitsForConfirm, waitsOf, has, canTake, codeOf, isUp, expired, answered, isReply};
+ghost use Rattle.session.specs.Session.{freeSession, isFree, waitsForReply, owesConfirm, isWithUser, waitsForConfirm, waitsOf, has, canTake, codeOf, isUp, answered, isReply};
 
 // How many octets an identifier has.
 const IDENTIFIER_OCTETS: usize = 16;
@@ -149,17 +149,6 @@ pub fn is_up(s: SessionState, time: u64) -> bool
         SessionState::WithUser(t) => timing::is_up(t, time),
         SessionState::WaitingForConfirm(t) => timing::is_up(t, time),
     }
-}
-
-// A session after a time check.
-pub fn expire(x: Session, time: u64) -> Session
-    ensures { λ r. ⌜ r ≡ expired time x ⌝ }
-{
-    let s = x.state;
-    if is_up(s, time) {
-        return no_session();
-    }
-    x
 }
 
 // A code where the time is up; else 0.

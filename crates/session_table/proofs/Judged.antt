@@ -16,12 +16,9 @@ use Rattle.md.specs.declared.MdTaken.the-variants as md
 use Rattle.md.specs.Uri.{sound}
 use Rattle.md.specs.Md.{headerOf, takeMd, sourceUriOf, destinationUriOf}
 use Rattle.md.proofs.Taken.{apart, taken}
-use Rattle.session_table.specs.declared.Tables.{Tables}
-use Rattle.session_table.specs.declared.Told.{Told}
+use Rattle.session_table.specs.Table.{Tables}
 use Rattle.session_table.specs.Table as table
 use Rattle.session_table.specs.Table.{judged, judgedBy, heardOf, mdChecks, telegram, refusedPlain}
-use Rattle.session_table.specs.Calls.{meaning, Follows, refusing}
-use Rattle.session_table.proofs.Rules.{follows}
 
 module _ (a : Arrival) (d : List ℕ) where
   abbrev pub sounds : Bool
@@ -59,7 +56,6 @@ module _ (a : Arrival) (d : List ℕ) where
     pub passes-all : passes (countsOf (x .common)) (a .local) ≡ true → sounds ≡ true → judged a d ≡ table.passed (heardOf a d)
     passes-all p s = weighed ∙ rw (p, s)
 
-  pub refused-follows : (t : Tables) (n : ℕ) (r : Told) → judged a d ≡ table.refusal n → r ≡ refusing t n → Follows (telegram a d) t r
+  pub refused-step : (t : Tables) (n : ℕ) → judged a d ≡ table.refusal n → table.step (telegram a d) t ≡ record { answer = refusedPlain n; after = t }
   unfolding table.step
-  refused-follows t n r j q =
-      follows (telegram a d) t r (record { answer = refusedPlain n; after = t }) (rw j refl) (ap (λ z. meaning (z .answer)) q) (ap (λ z. z .tables) q)
+  refused-step t n j = rw j refl

@@ -48,3 +48,13 @@ any-found p (x ∷ xs) = go (p x) (any-found p xs)
 -- .. so a search asks whether one passes
 pub asked : {X : Type 0} (p : X → Bool) (xs : List X) (f : Found) (b c : Bool) → f ≡ foundOf (lowest p xs) → b ≡ isFound f → b ≡ c → any p xs ≡ c
 asked p xs f b c e s h = any-found p xs ∙ ap isFound (sym e) ∙ sym s ∙ h
+
+-- what was found
+
+pub found-none : (o : Option ℕ) → foundOf o ≡ Nothing → o ≡ none
+found-none none e = refl
+found-none (some k) e = let z : _≡_ {A = ℕ} 0 1 = cc in absurd (omega arith)
+
+pub found-some : (o : Option ℕ) (k : ℕ) → foundOf o ≡ At k → o ≡ some k
+found-some none k e = let z : _≡_ {A = ℕ} 0 1 = cc in absurd (omega arith)
+found-some (some j) k e = let z : j ≡ k = cc in ap some z

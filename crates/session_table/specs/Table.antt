@@ -21,10 +21,13 @@ use Rattle.session.specs.declared.Listener.{Listener}
 use Rattle.session.specs.declared.Session.{Session}
 use Rattle.session.specs.declared.SessionState.{SessionState}
 use Rattle.session.specs.declared.SessionState.the-variants.{WaitingForReply, OwingConfirm, WithUser}
-use Rattle.session_table.specs.declared.Tables.{Tables}
 use Rattle.session.specs.Listener.{freeListener, newListener, hears, holds}
 use Rattle.session.specs.Session.{freeSession, isFree, waitsForReply, owesConfirm, isWithUser, waitsForConfirm, has, codeOf, expired}
 pub use Rattle.session.specs.Session.{canTake, answered, isReply}
+
+pub record Tables : Type 0 where
+  pub listeners : List Listener
+  pub sessions : List Session
 
 pub data Call : Type 0 where
   -- a listener's ComId, sender range and destination URI

@@ -1,24 +1,14 @@
-// The tables of message sessions: sixteen listeners and sixteen sessions, by value; what is sought in them, and what a call writes.
+// What the calls on listeners and sessions answer, and what is sought among them.
 use address::SenderRange;
 use session::Listener;
 use session::Session;
-use session::SessionState;
 use session::Waits;
-ghost use lib.ListN.{getD};
 ghost use mathlib.Core.Path.{_≡_};
-ghost use Rattle.refusal.specs.Refusal.{firstOf, noFreeSession};
-ghost use Rattle.tables.specs.Lists.{lowest};
-ghost use Rattle.session.specs.Listener.{freeListener};
-ghost use Rattle.session.specs.Session.{freeSession, isFree};
-ghost use Rattle.session_table.specs.Table.{opened, requested, refusedPlain, allInUse, listenChecks};
-ghost use Rattle.session_table.specs.Calls.{meaning, placeAnswer, Opens, refusing, keeping, keepingListener};
-ghost use Rattle.session_table.specs.Sought.{foundOf, isFound, listenerSoughtBy, soughtBy};
-
-// Sixteen listeners and sixteen sessions.
-pub struct Tables {
-    pub listeners: [Listener; 16],
-    pub sessions: [Session; 16],
-}
+ghost use Rattle.refusal.specs.Refusal.{noFreeSession};
+ghost use Rattle.session.specs.Session.{isFree};
+ghost use Rattle.session_table.specs.Table.{opened, requested, refusedPlain, allInUse};
+ghost use Rattle.session_table.specs.Calls.{meaning, placeAnswer};
+ghost use Rattle.session_table.specs.Sought.{isFound, listenerSoughtBy, soughtBy};
 
 // A place in a table, or none.
 pub enum Found {
@@ -45,29 +35,11 @@ pub enum Answer {
     Refused(u8, i32),
 }
 
-// The tables after a call, and its answer.
-pub struct Told {
-    pub tables: Tables,
-    pub answer: Answer,
-}
-
-// The tables after a time check, and its code for each session slot.
-pub struct Checked {
-    pub tables: Tables,
-    pub codes: [i32; 16],
-}
-
 // Where a session was opened, or why not.
 pub enum Place {
     Slot(usize),
     InUse,
     Full,
-}
-
-// The sessions after an opening.
-pub struct Opening {
-    pub sessions: [Session; 16],
-    pub place: Place,
 }
 
 // What a listener is sought for; the URI stands beside it.
@@ -115,36 +87,6 @@ pub fn is_sought(x: Session, id: [u8; 16], w: Sought) -> bool
     }
 }
 
-// The lowest listener that is sought.
-pub fn find_listener(ls: [Listener; 16], w: ListenerSought, uri: &[u8]) -> Found
-    ensures { λ r. ⌜ r ≡ foundOf (lowest (listenerSoughtBy w (now (uri .entry))) ls) ⌝ }
-{
-    let mut i: usize = 0;
-    while i < 16 {
-        let l = ls[i];
-        if is_listener_sought(l, w, uri) {
-            return Found::At(i);
-        }
-        i += 1;
-    }
-    Found::Nothing
-}
-
-// The lowest session that is sought.
-pub fn find_session(xs: [Session; 16], id: [u8; 16], w: Sought) -> Found
-    ensures { λ r. ⌜ r ≡ foundOf (lowest (soughtBy w id) xs) ⌝ }
-{
-    let mut k: usize = 0;
-    while k < 16 {
-        let x = xs[k];
-        if is_sought(x, id, w) {
-            return Found::At(k);
-        }
-        k += 1;
-    }
-    Found::Nothing
-}
-
 // A place was found.
 pub fn is_found(f: Found) -> bool
     ensures { λ r. ⌜ r ≡ isFound f ⌝ }
@@ -152,124 +94,6 @@ pub fn is_found(f: Found) -> bool
     match f {
         Found::At(_) => true,
         Found::Nothing => false,
-    }
-}
-
-// Whether a listener may be added: 11, 20, 12; 0 where it may.
-pub fn judge_listener(ls: [Listener; 16], com_id: u32, senders: SenderRange, uri: [u8; 32]) -> u8
-    ensures { λ r. ⌜ r ≡ firstOf (listenChecks «com_id» senders uri ls) ⌝ }
-{
-    if address::is_reversed(senders) {
-        return refusal::RANGE;
-    }
-    if md::uri::is_sound(&uri) {
-        let held = find_listener(ls, ListenerSought::Holding(com_id, senders), &uri);
-        if is_found(held) {
-            return refusal::FILTER_IN_USE;
-        }
-        return 0;
-    }
-    refusal::URI
-}
-
-// The listener of a slot; a slot too large is a free one.
-pub fn listener_at(ls: [Listener; 16], k: usize) -> Listener
-    ensures { λ r. ⌜ r ≡ getD ls k freeListener ⌝ }
-{
-    if k < 16 {
-        return ls[k];
-    }
-    session::no_listener()
-}
-
-// The session of a slot; a slot too large is a free one.
-pub fn session_at(xs: [Session; 16], k: usize) -> Session
-    ensures { λ r. ⌜ r ≡ getD xs k freeSession ⌝ }
-{
-    if k < 16 {
-        return xs[k];
-    }
-    session::no_session()
-}
-
-// A call that is refused leaves the tables as they are.
-pub fn refuse(t: Tables, number: u8) -> Told
-    ensures { λ r. ⌜ r ≡ refusing t number ⌝ }
-{
-    Told {
-        tables: t,
-        answer: Answer::Refused(number, 0),
-    }
-}
-
-// The tables with another listener in a slot.
-pub fn keep_listener(t: Tables, k: usize, l: Listener, answer: Answer) -> Told
-    ensures { λ r. ⌜ r ≡ keepingListener t k l answer ⌝ }
-{
-    let mut ls = t.listeners;
-    let xs = t.sessions;
-    if k < 16 {
-        ls[k] = l;
-    }
-    Told {
-        tables: Tables {
-            listeners: ls,
-            sessions: xs,
-        },
-        answer: answer,
-    }
-}
-
-// The tables with another session in a slot.
-pub fn keep(t: Tables, k: usize, x: Session, answer: Answer) -> Told
-    ensures { λ r. ⌜ r ≡ keeping t k x answer ⌝ }
-{
-    let ls = t.listeners;
-    let mut xs = t.sessions;
-    if k < 16 {
-        xs[k] = x;
-    }
-    Told {
-        tables: Tables {
-            listeners: ls,
-            sessions: xs,
-        },
-        answer: answer,
-    }
-}
-
-// The lowest free session is opened, unless the identifier is in use or none is free.
-pub fn open(xs: [Session; 16], id: [u8; 16], state: SessionState) -> Opening
-    ensures { λ r. ⌜ Opens id state xs r ⌝ }
-{
-    let used = find_session(xs, id, Sought::InUse);
-    if is_found(used) {
-        return Opening {
-            sessions: xs,
-            place: Place::InUse,
-        };
-    }
-    let f = find_session(xs, id, Sought::Vacant);
-    let Found::At(k) = f else {
-        return Opening {
-            sessions: xs,
-            place: Place::Full,
-        };
-    };
-    if k < 16 {
-        let mut ys = xs;
-        ys[k] = Session {
-            id: id,
-            state: state,
-        };
-        return Opening {
-            sessions: ys,
-            place: Place::Slot(k),
-        };
-    }
-    Opening {
-        sessions: xs,
-        place: Place::Full,
     }
 }
 

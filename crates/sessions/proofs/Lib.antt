@@ -1,2 +1,4 @@
+pub mod Filled
 pub mod Answers
 pub mod Listening
+pub mod Checking

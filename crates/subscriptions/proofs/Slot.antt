@@ -1,17 +1,18 @@
 -- A call that names a slot, in terms of the table's rules.
 -- Assumes nothing.
-use Prim.Native.Nat.{ℕ, zero, suc, _+_, _*_, _<_, _≤_}
+use Prim.Native.Nat.{ℕ, suc, _+_, _*_, _<_, _≤_}
 use native.Mathlib.Omega.{arith}
-use native.Mathlib.Nat.{suc-mul, le-of-suc-le-suc, mul-le-mul-right}
-use mathlib.Core.Path.{_≡_, refl, sym, _∙_, ap}
+use native.Mathlib.Nat.{suc-mul, mul-le-mul-right}
+use mathlib.Core.Path.{_≡_, refl, sym, ap}
 use mathlib.Core.List.{List, [], _∷_, _++_, append-assoc}
 use mathlib.Core.Bool.{Bool, true, false, cond, true≢false}
 use lib.Dec.{leb}
 use lib.ListN.{length, take, drop, getD, set, replicate, length-replicate, take-append-drop}
-use lib.Seq.{set-out, set-getD, drop-drop}
+use lib.Seq.{set-out, drop-drop}
 use borrow.Author.Tests.{leb-true, leb-false}
 use Rattle.octets.specs.Octets.{put}
 use Rattle.tables.specs.Lists.{atSlot}
+use Rattle.tables.proofs.Arrays.{past}
 use Rattle.subscription.specs.Record.{freeRecord}
 use Rattle.subscription_table.specs.Slot.{Cell, slotOctets, freeCell}
 use Rattle.subscription_table.specs.Table.{Table, fits, parts, records, store, unsubscribe, unsubscribed, slots, step}
@@ -34,14 +35,6 @@ here rs st k e = go (fits (length rs) (length st)) refl e
         let l : suc k * 1432 ≤ length rs * 1432 = mul-le-mul-right 1432 n in
         (n, omega (arith, m, l, suc-mul k 1432))
     go false f h = absurd (true≢false h)
-
-pub past : {X : Type 0} (xs : List X) (k : ℕ) (d : X) → length xs ≤ k → getD xs k d ≡ d
-past xs k d h = ap (λ l. getD l k d) (sym (set-out xs k d h)) ∙ gone xs k d h
-  where
-    gone : {X : Type 0} (xs : List X) (k : ℕ) (d : X) → length xs ≤ k → getD (set xs k d) k d ≡ d
-    gone [] k d h = refl
-    gone (x ∷ xs) zero d h = refl
-    gone (x ∷ xs) (suc k) d h = gone xs k d (le-of-suc-le-suc h)
 
 pub length-parts : (rs : List Subscription) (st : List ℕ) → length (parts rs st) ≡ length rs
 unfolding parts

@@ -16,7 +16,8 @@ use Rattle.subscription.specs.declared.Subscription.{Subscription}
 use Rattle.subscription_table.proofs.Flat.{parts-at}
 use Rattle.subscriptions.specs.Read.{Reads}
 use Rattle.subscription_decisions.specs.Read.{readBy, shown}
-use Rattle.subscriptions.proofs.Slot.{past, length-parts}
+use Rattle.tables.proofs.Arrays.{past}
+use Rattle.subscriptions.proofs.Slot.{length-parts}
 
 -- one slot that is there
 cell-reads : (k : ℕ) (set : List ℕ) (st : List ℕ) (r : Subscription) → shown k set st (readBy true r) ≡ reading set (record { slot = r; octets = take slotOctets (drop (k * slotOctets) st) })

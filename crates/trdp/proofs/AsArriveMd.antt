@@ -27,7 +27,7 @@ use Rattle.walks.proofs.ByValue.{unsignedInt}
 use Rattle.walks.proofs.Steps.{Call, both-lent, ref-lent, shr-lent, pair-is}
 use Rattle.subscriptions.proofs.Values.{arrivalBy}
 use Rattle.session_table.specs.Table.{step as mdStep, telegram as mdTelegram}
-use Rattle.packed_calls.specs.Calls.{leftBy}
+use Rattle.packed_slots.specs.Calls.{octetsAfter}
 use Rattle.packed.specs.Packed.{tablesOf as unpacked}
 use Rattle.boundary.specs.declared.MdOutcome.{MdOutcome}
 use Rattle.boundary.specs.Sessions.{mdOutcomeOf}
@@ -58,13 +58,13 @@ module _ {M : Type 1} (𝓤 : URA M) (H : Heap 𝓤) (A : Atoms 𝓤) (W : Given
       abbrev Said : MdOutcome → (List ℕ × (Unit {0} × (Unit {0} × Unit {0}))) → Type 0
       Said r zs = Arrives ar d tb (r) (zs .0)
 
-      gives : (u : Val) → ent 𝓤 (G .post to u) (H .⇛ (ex 𝓤 (λ (z : MdOutcome × (List ℕ × List ℕ)). sep 𝓤 (sem 𝓤 H A (mdOutcomeBy 𝓤 H A W .R .own (z .0) (u ∷ []))) (sep 𝓤 ((telling 𝓤 H A (both-lent 𝓤 H A W (ref-lent 𝓤 H A W (octetsLent .R) (named 0) tb-κ tb-q tb-γ tb-b tb-o) (shr-lent 𝓤 H A W (unsignedInt 𝓤 H A W w8 .R) (named 1) d-κ d-q d-γ d-b d-o d-n)) (λ v v′. unpacked (v′ .0) ≡ (mdStep (mdTelegram ar d) (unpacked tb)) .after)) .back n (z .1)) (fact 𝓤 ((z .0 ≡ mdOutcomeOf ((mdStep (mdTelegram ar d) (unpacked tb)) .answer)) × ((z .1 ≡ (leftBy (mdTelegram ar d) ((mdStep (mdTelegram ar d) (unpacked tb)) .answer) ((mdStep (mdTelegram ar d) (unpacked tb)) .after) tb, d)) × (telling 𝓤 H A (both-lent 𝓤 H A W (ref-lent 𝓤 H A W (octetsLent .R) (named 0) tb-κ tb-q tb-γ tb-b tb-o) (shr-lent 𝓤 H A W (unsignedInt 𝓤 H A W w8 .R) (named 1) d-κ d-q d-γ d-b d-o d-n)) (λ v v′. unpacked (v′ .0) ≡ (mdStep (mdTelegram ar d) (unpacked tb)) .after)) .Fit ((tb, d)) (z .1))))))))
+      gives : (u : Val) → ent 𝓤 (G .post to u) (H .⇛ (ex 𝓤 (λ (z : MdOutcome × (List ℕ × List ℕ)). sep 𝓤 (sem 𝓤 H A (mdOutcomeBy 𝓤 H A W .R .own (z .0) (u ∷ []))) (sep 𝓤 ((telling 𝓤 H A (both-lent 𝓤 H A W (ref-lent 𝓤 H A W (octetsLent .R) (named 0) tb-κ tb-q tb-γ tb-b tb-o) (shr-lent 𝓤 H A W (unsignedInt 𝓤 H A W w8 .R) (named 1) d-κ d-q d-γ d-b d-o d-n)) (λ v v′. unpacked (v′ .0) ≡ (mdStep (mdTelegram ar d) (unpacked tb)) .after)) .back n (z .1)) (fact 𝓤 ((z .0 ≡ mdOutcomeOf ((mdStep (mdTelegram ar d) (unpacked tb)) .answer)) × ((z .1 ≡ (octetsAfter (mdTelegram ar d) tb, d)) × (telling 𝓤 H A (both-lent 𝓤 H A W (ref-lent 𝓤 H A W (octetsLent .R) (named 0) tb-κ tb-q tb-γ tb-b tb-o) (shr-lent 𝓤 H A W (unsignedInt 𝓤 H A W w8 .R) (named 1) d-κ d-q d-γ d-b d-o d-n)) (λ v v′. unpacked (v′ .0) ≡ (mdStep (mdTelegram ar d) (unpacked tb)) .after)) .Fit ((tb, d)) (z .1))))))))
       gives u =
           qed W (raw (G .post to u) ∷ []) ∵ updating ! $
           use1 W (later (some (λ (r : MdOutcome). ((‵ (flft ((n .0) .0 ∷ []) fullShare) ⊛ (‵ (flft (d-κ) d-q) ⊛ ‵ ftrue)) ⊛ ‵ (mdOutcomeBy 𝓤 H A W .R .own r (u ∷ []))) ⊛ raw (ensured 𝓤 H A callee.ended (callee.clauses 𝓤 H A mem run) (((n .0) .0 ∷ [], (d-κ, tt))) args tt r)))) (id⊢ 𝓤 _) $ await ! tt $ pick ! (λ r. split ! $ move ! (1 ∷ []) $
           use1 W (some (λ (zs : (List ℕ × (Unit {0} × (Unit {0} × Unit {0})))). ‵ (lasts callee.ended (((n .0) .0 ∷ [], (d-κ, tt))) args zs) ⊛ raw (fact 𝓤 (Said r zs)))) (id⊢ 𝓤 _) $ pick ! (λ zs. split ! $ move ! (1 ∷ []) $
           heard ! (Said r zs) (λ e.
-          move ! (0 ∷ []) $ fsplit ! $ move ! (1 ∷ []) $ fsplit ! $ move ! (0 ∷ []) $ drop ! $ move ! (0 ∷ []) $ fsplit ! $ move ! (0 ∷ []) $ drop ! $ move ! (2 ∷ []) $ split ! $ move ! (0 ∷ []) $ split ! $ move ! (1 ∷ []) $ split ! $ use0 W (raw (fact 𝓤 ((r ≡ mdOutcomeOf ((mdStep (mdTelegram ar d) (unpacked tb)) .answer)) × (((zs .0, d) ≡ (leftBy (mdTelegram ar d) ((mdStep (mdTelegram ar d) (unpacked tb)) .answer) ((mdStep (mdTelegram ar d) (unpacked tb)) .after) tb, d)) × (telling 𝓤 H A (both-lent 𝓤 H A W (ref-lent 𝓤 H A W (octetsLent .R) (named 0) tb-κ tb-q tb-γ tb-b tb-o) (shr-lent 𝓤 H A W (unsignedInt 𝓤 H A W w8 .R) (named 1) d-κ d-q d-γ d-b d-o d-n)) (λ v v′. unpacked (v′ .0) ≡ (mdStep (mdTelegram ar d) (unpacked tb)) .after)) .Fit ((tb, d)) ((zs .0, d)))))) (factI 𝓤 ((r ≡ mdOutcomeOf ((mdStep (mdTelegram ar d) (unpacked tb)) .answer)) × (((zs .0, d) ≡ (leftBy (mdTelegram ar d) ((mdStep (mdTelegram ar d) (unpacked tb)) .answer) ((mdStep (mdTelegram ar d) (unpacked tb)) .after) tb, d)) × (telling 𝓤 H A (both-lent 𝓤 H A W (ref-lent 𝓤 H A W (octetsLent .R) (named 0) tb-κ tb-q tb-γ tb-b tb-o) (shr-lent 𝓤 H A W (unsignedInt 𝓤 H A W w8 .R) (named 1) d-κ d-q d-γ d-b d-o d-n)) (λ v v′. unpacked (v′ .0) ≡ (mdStep (mdTelegram ar d) (unpacked tb)) .after)) .Fit ((tb, d)) ((zs .0, d)))) (emp 𝓤) (e .answers, (pair-is (e .leaves) (refl), ((tt, refl), e .means)))) $ at-once ! $ show ! (λ (z : MdOutcome × (List ℕ × List ℕ)). sep 𝓤 (sem 𝓤 H A (mdOutcomeBy 𝓤 H A W .R .own (z .0) (u ∷ []))) (sep 𝓤 ((telling 𝓤 H A (both-lent 𝓤 H A W (ref-lent 𝓤 H A W (octetsLent .R) (named 0) tb-κ tb-q tb-γ tb-b tb-o) (shr-lent 𝓤 H A W (unsignedInt 𝓤 H A W w8 .R) (named 1) d-κ d-q d-γ d-b d-o d-n)) (λ v v′. unpacked (v′ .0) ≡ (mdStep (mdTelegram ar d) (unpacked tb)) .after)) .back n (z .1)) (fact 𝓤 ((z .0 ≡ mdOutcomeOf ((mdStep (mdTelegram ar d) (unpacked tb)) .answer)) × ((z .1 ≡ (leftBy (mdTelegram ar d) ((mdStep (mdTelegram ar d) (unpacked tb)) .answer) ((mdStep (mdTelegram ar d) (unpacked tb)) .after) tb, d)) × (telling 𝓤 H A (both-lent 𝓤 H A W (ref-lent 𝓤 H A W (octetsLent .R) (named 0) tb-κ tb-q tb-γ tb-b tb-o) (shr-lent 𝓤 H A W (unsignedInt 𝓤 H A W w8 .R) (named 1) d-κ d-q d-γ d-b d-o d-n)) (λ v v′. unpacked (v′ .0) ≡ (mdStep (mdTelegram ar d) (unpacked tb)) .after)) .Fit ((tb, d)) (z .1)))))) (r, (zs .0, d)) $ move ! (3 ∷ 6 ∷ []) $ join ! $ move ! (0 ∷ 2 ∷ []) $ join ! $ keep ! (3 ∷ 0 ∷ 1 ∷ []) $ done !)))
+          move ! (0 ∷ []) $ fsplit ! $ move ! (1 ∷ []) $ fsplit ! $ move ! (0 ∷ []) $ drop ! $ move ! (0 ∷ []) $ fsplit ! $ move ! (0 ∷ []) $ drop ! $ move ! (2 ∷ []) $ split ! $ move ! (0 ∷ []) $ split ! $ move ! (1 ∷ []) $ split ! $ use0 W (raw (fact 𝓤 ((r ≡ mdOutcomeOf ((mdStep (mdTelegram ar d) (unpacked tb)) .answer)) × (((zs .0, d) ≡ (octetsAfter (mdTelegram ar d) tb, d)) × (telling 𝓤 H A (both-lent 𝓤 H A W (ref-lent 𝓤 H A W (octetsLent .R) (named 0) tb-κ tb-q tb-γ tb-b tb-o) (shr-lent 𝓤 H A W (unsignedInt 𝓤 H A W w8 .R) (named 1) d-κ d-q d-γ d-b d-o d-n)) (λ v v′. unpacked (v′ .0) ≡ (mdStep (mdTelegram ar d) (unpacked tb)) .after)) .Fit ((tb, d)) ((zs .0, d)))))) (factI 𝓤 ((r ≡ mdOutcomeOf ((mdStep (mdTelegram ar d) (unpacked tb)) .answer)) × (((zs .0, d) ≡ (octetsAfter (mdTelegram ar d) tb, d)) × (telling 𝓤 H A (both-lent 𝓤 H A W (ref-lent 𝓤 H A W (octetsLent .R) (named 0) tb-κ tb-q tb-γ tb-b tb-o) (shr-lent 𝓤 H A W (unsignedInt 𝓤 H A W w8 .R) (named 1) d-κ d-q d-γ d-b d-o d-n)) (λ v v′. unpacked (v′ .0) ≡ (mdStep (mdTelegram ar d) (unpacked tb)) .after)) .Fit ((tb, d)) ((zs .0, d)))) (emp 𝓤) (e .answers, (pair-is (e .leaves) (refl), ((tt, refl), e .means)))) $ at-once ! $ show ! (λ (z : MdOutcome × (List ℕ × List ℕ)). sep 𝓤 (sem 𝓤 H A (mdOutcomeBy 𝓤 H A W .R .own (z .0) (u ∷ []))) (sep 𝓤 ((telling 𝓤 H A (both-lent 𝓤 H A W (ref-lent 𝓤 H A W (octetsLent .R) (named 0) tb-κ tb-q tb-γ tb-b tb-o) (shr-lent 𝓤 H A W (unsignedInt 𝓤 H A W w8 .R) (named 1) d-κ d-q d-γ d-b d-o d-n)) (λ v v′. unpacked (v′ .0) ≡ (mdStep (mdTelegram ar d) (unpacked tb)) .after)) .back n (z .1)) (fact 𝓤 ((z .0 ≡ mdOutcomeOf ((mdStep (mdTelegram ar d) (unpacked tb)) .answer)) × ((z .1 ≡ (octetsAfter (mdTelegram ar d) tb, d)) × (telling 𝓤 H A (both-lent 𝓤 H A W (ref-lent 𝓤 H A W (octetsLent .R) (named 0) tb-κ tb-q tb-γ tb-b tb-o) (shr-lent 𝓤 H A W (unsignedInt 𝓤 H A W w8 .R) (named 1) d-κ d-q d-γ d-b d-o d-n)) (λ v v′. unpacked (v′ .0) ≡ (mdStep (mdTelegram ar d) (unpacked tb)) .after)) .Fit ((tb, d)) (z .1)))))) (r, (zs .0, d)) $ move ! (3 ∷ 6 ∷ []) $ join ! $ move ! (0 ∷ 2 ∷ []) $ join ! $ keep ! (3 ∷ 0 ∷ 1 ∷ []) $ done !)))
 
-    pub called : Call 𝓤 H A C #g (vptr tb-b tb-o ∷ arrivalBy 𝓤 H A W .val ar ∷ sliceVal (d-b, d-o) d-n ∷ []) (telling 𝓤 H A (both-lent 𝓤 H A W (ref-lent 𝓤 H A W (octetsLent .R) (named 0) tb-κ tb-q tb-γ tb-b tb-o) (shr-lent 𝓤 H A W (unsignedInt 𝓤 H A W w8 .R) (named 1) d-κ d-q d-γ d-b d-o d-n)) (λ v v′. unpacked (v′ .0) ≡ (mdStep (mdTelegram ar d) (unpacked tb)) .after)) (mdOutcomeBy 𝓤 H A W) ((tb, d)) ((leftBy (mdTelegram ar d) ((mdStep (mdTelegram ar d) (unpacked tb)) .answer) ((mdStep (mdTelegram ar d) (unpacked tb)) .after) tb, d)) (mdOutcomeOf ((mdStep (mdTelegram ar d) (unpacked tb)) .answer))
+    pub called : Call 𝓤 H A C #g (vptr tb-b tb-o ∷ arrivalBy 𝓤 H A W .val ar ∷ sliceVal (d-b, d-o) d-n ∷ []) (telling 𝓤 H A (both-lent 𝓤 H A W (ref-lent 𝓤 H A W (octetsLent .R) (named 0) tb-κ tb-q tb-γ tb-b tb-o) (shr-lent 𝓤 H A W (unsignedInt 𝓤 H A W w8 .R) (named 1) d-κ d-q d-γ d-b d-o d-n)) (λ v v′. unpacked (v′ .0) ≡ (mdStep (mdTelegram ar d) (unpacked tb)) .after)) (mdOutcomeBy 𝓤 H A W) ((tb, d)) ((octetsAfter (mdTelegram ar d) tb, d)) (mdOutcomeOf ((mdStep (mdTelegram ar d) (unpacked tb)) .answer))
     called = record { Q = λ n. G .post (to n); goes = λ n. via 𝓤 (G .pre (to n)) (goes n) (known (to n)); gives = gives }

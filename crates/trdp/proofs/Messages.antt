@@ -20,8 +20,8 @@ use Rattle.session.specs.Session.{freeSession}
 use Rattle.session_table.specs.Table.{Call, step, telegram}
 use Rattle.session_table.specs.declared.Answer.{Answer}
 use Rattle.session.specs.declared.Session.{Session}
-use Rattle.packed_calls.specs.Calls as packed
-use Rattle.packed_calls.specs.Calls.{leftBy}
+use Rattle.packed_slots.specs.Calls as packed
+use Rattle.packed_slots.specs.Calls.{octetsAfter}
 use Rattle.packed.specs.Packed.{tablesOf}
 use Rattle.boundary.specs.declared.Outcome.{Outcome}
 use Rattle.boundary.specs.declared.MdOutcome.{MdOutcome}
@@ -35,21 +35,21 @@ whole n s e = let h : length s ≤ n = omega (arith, e) in take-all n s h
 
 -- what a call over the octets answers and leaves
 pub follows : (c : Call) (o o′ : List ℕ) (x : Answer) → packed.Follows c o x o′ → (r : Outcome) → r ≡ outcomeOf (session.meaning x) → Follows c o r o′
-follows c o o′ x f r q = record { answers = q ∙ ap outcomeOf (f .does .answers); means = f .does .leaves; leaves = f .leaves }
+follows c o o′ x f r q = record { answers = q ∙ ap outcomeOf (f .answers); means = f .means; leaves = f .leaves }
 
 -- .. where what was handed on is equal to what was lent
 pub follows-as : (c : List ℕ → Call) (u v o o′ : List ℕ) (x : Answer) → u ≡ v → packed.Follows (c u) o x o′ → (r : Outcome) → r ≡ outcomeOf (session.meaning x) → Follows (c v) o r o′
 follows-as c u v o o′ x e f r q = subst (λ (w : List ℕ). Follows (c w) o r o′) e (follows (c u) o o′ x f r q)
 
 pub arrives : (a : Arrival) (d o o′ : List ℕ) (x : Answer) → packed.Follows (telegram a d) o x o′ → (r : MdOutcome) → r ≡ mdOutcomeOf (session.meaning x) → Arrives a d o r o′
-arrives a d o o′ x f r q = record { answers = q ∙ ap mdOutcomeOf (f .does .answers); means = f .does .leaves; leaves = f .leaves }
+arrives a d o o′ x f r q = record { answers = q ∙ ap mdOutcomeOf (f .answers); means = f .means; leaves = f .leaves }
 
 pub checks : (time : ℕ) (o o′ : List ℕ) (codes : List ℤ) → packed.Checks time o codes o′ → Checks time o (record { codes = codes }) o′
-checks time o o′ codes f = record { answers = f .does .answers; means = f .does .leaves; leaves = f .leaves }
+checks time o o′ codes f = record { answers = f .answers; means = f .means; leaves = f .leaves }
 
 -- the statistics count what the rules answer
-pub received : (a : Arrival) (d o : List ℕ) (s : Statistics) → let q = step (telegram a d) (tablesOf o) in tablesOf (leftBy (telegram a d) (q .answer) (q .after) o) ≡ q .after
-    → Receives a d o s (mdOutcomeOf (q .answer)) (leftBy (telegram a d) (q .answer) (q .after) o) (added Md (mdOutcomeOf (q .answer) .refusal) s)
+pub received : (a : Arrival) (d o : List ℕ) (s : Statistics) → let q = step (telegram a d) (tablesOf o) in tablesOf (octetsAfter (telegram a d) o) ≡ q .after
+    → Receives a d o s (mdOutcomeOf (q .answer)) (octetsAfter (telegram a d) o) (added Md (mdOutcomeOf (q .answer) .refusal) s)
 received a d o s m = record { arrives = record { answers = refl; means = m; leaves = refl }; counts = refl }
 
 -- ---- one session

@@ -13,7 +13,7 @@ use Rattle.statistics.specs.declared.Statistics.{Statistics}
 use Rattle.session.specs.Session.{freeSession}
 use Rattle.session_table.specs.Table as table
 use Rattle.session_table.specs.Table.{Call, step, telegram, timeCheck}
-use Rattle.packed_calls.specs.Calls.{leftBy, expiredIn}
+use Rattle.packed_slots.specs.Calls.{octetsAfter}
 use Rattle.packed.specs.Packed.{tablesOf}
 use Rattle.boundary.specs.declared.Outcome.{Outcome}
 use Rattle.boundary.specs.declared.MdOutcome.{MdOutcome}
@@ -25,13 +25,13 @@ use Rattle.boundary.specs.Sessions.{outcomeOf, mdOutcomeOf, seen, notSeen}
 pub record Follows (c : Call) (octets : List ℕ) (r : Outcome) (octets′ : List ℕ) : Type 0 where
   pub answers : r ≡ outcomeOf (step c (tablesOf octets) .answer)
   pub means : tablesOf octets′ ≡ step c (tablesOf octets) .after
-  pub leaves : octets′ ≡ leftBy c (step c (tablesOf octets) .answer) (step c (tablesOf octets) .after) octets
+  pub leaves : octets′ ≡ octetsAfter c octets
 
 -- a telegram's answer, and the octets after it
 pub record Arrives (a : Arrival) (datagram octets : List ℕ) (r : MdOutcome) (octets′ : List ℕ) : Type 0 where
   pub answers : r ≡ mdOutcomeOf (step (telegram a datagram) (tablesOf octets) .answer)
   pub means : tablesOf octets′ ≡ step (telegram a datagram) (tablesOf octets) .after
-  pub leaves : octets′ ≡ leftBy (telegram a datagram) (step (telegram a datagram) (tablesOf octets) .answer) (step (telegram a datagram) (tablesOf octets) .after) octets
+  pub leaves : octets′ ≡ octetsAfter (telegram a datagram) octets
 
 -- .. and the statistics, which count its refusal number, or 0 where it is delivered
 pub record Receives (a : Arrival) (datagram octets : List ℕ) (statistics : Statistics) (r : MdOutcome) (octets′ : List ℕ) (statistics′ : Statistics) : Type 0 where
@@ -42,7 +42,7 @@ pub record Receives (a : Arrival) (datagram octets : List ℕ) (statistics : Sta
 pub record Checks (time : ℕ) (octets : List ℕ) (r : Codes) (octets′ : List ℕ) : Type 0 where
   pub answers : table.codes (r .codes) ≡ step (timeCheck time) (tablesOf octets) .answer
   pub means : tablesOf octets′ ≡ step (timeCheck time) (tablesOf octets) .after
-  pub leaves : octets′ ≡ expiredIn time 16 octets
+  pub leaves : octets′ ≡ octetsAfter (timeCheck time) octets
 
 -- session k; 10 where there is no such slot
 abbrev pub sessionSeen : List ℕ → ℕ → SessionSeen

@@ -221,7 +221,7 @@ pub extern "C" fn trdp_listen(
     ensures { λ r. ⌜ sessions.Follows (messages.listen «com_id» senders (now (uri .entry))) (now (tables .entry)) r (now (tables .exit)) ⌝ }
 {
     let u = packed::thirty_two(uri, 0);
-    let a = packed_calls::listen(tables, com_id, senders, u);
+    let a = sessions::listen(tables, com_id, senders, u);
     boundary::of_told(a)
 }
 
@@ -230,7 +230,7 @@ pub extern "C" fn trdp_listen(
 pub extern "C" fn trdp_unlisten(tables: &mut [u8; 1280], k: usize) -> Outcome
     ensures { λ r. ⌜ sessions.Follows (messages.unlisten k) (now (tables .entry)) r (now (tables .exit)) ⌝ }
 {
-    let a = packed_calls::unlisten(tables, k);
+    let a = sessions::unlisten(tables, k);
     boundary::of_told(a)
 }
 
@@ -245,7 +245,7 @@ pub extern "C" fn trdp_call(
     ensures { λ r. ⌜ sessions.Follows (messages.calling (now (id .entry)) timeout time) (now (tables .entry)) r (now (tables .exit)) ⌝ }
 {
     let i = octets::sixteen(id, 0);
-    let a = packed_calls::call(tables, i, timeout, time);
+    let a = sessions::call(tables, i, timeout, time);
     boundary::of_told(a)
 }
 
@@ -260,7 +260,7 @@ pub extern "C" fn trdp_reply(
 ) -> Outcome
     ensures { λ r. ⌜ sessions.Follows (messages.reply k «msg_type» timeout time) (now (tables .entry)) r (now (tables .exit)) ⌝ }
 {
-    let a = packed_calls::reply(tables, k, msg_type, timeout, time);
+    let a = sessions::reply(tables, k, msg_type, timeout, time);
     boundary::of_told(a)
 }
 
@@ -269,7 +269,7 @@ pub extern "C" fn trdp_reply(
 pub extern "C" fn trdp_confirm(tables: &mut [u8; 1280], k: usize) -> Outcome
     ensures { λ r. ⌜ sessions.Follows (messages.confirm k) (now (tables .entry)) r (now (tables .exit)) ⌝ }
 {
-    let a = packed_calls::confirm(tables, k);
+    let a = sessions::confirm(tables, k);
     boundary::of_told(a)
 }
 
@@ -278,7 +278,7 @@ pub extern "C" fn trdp_confirm(tables: &mut [u8; 1280], k: usize) -> Outcome
 pub extern "C" fn trdp_check_sessions(tables: &mut [u8; 1280], time: u64) -> Codes
     ensures { λ r. ⌜ sessions.Checks time (now (tables .entry)) r (now (tables .exit)) ⌝ }
 {
-    let codes = packed_calls::time_check(tables, time);
+    let codes = sessions::time_check(tables, time);
     Codes { codes: codes }
 }
 
@@ -304,7 +304,7 @@ pub extern "C" fn trdp_session(tables: &[u8; 1280], k: usize) -> SessionSeen
 fn arrive_md(tables: &mut [u8; 1280], a: Arrival, datagram: &[u8]) -> MdOutcome
     ensures { λ r. ⌜ sessions.Arrives a (now (datagram .entry)) (now (tables .entry)) r (now (tables .exit)) ⌝ }
 {
-    let answer = packed_calls::arrive(tables, a, datagram);
+    let answer = messages::arrive(tables, a, datagram);
     boundary::of_received(answer)
 }
 

@@ -1,6 +1,7 @@
 -- The table of one slot holds it alone.
 use borrow.Author.Needs.{needs}
-use Rattle.lent.proofs.Serving.{only-slot, length-mapped}
+use Rattle.tables.proofs.Arrays.{length-mapped}
+use Rattle.lent.proofs.Serving.{only-slot}
 use Rattle.lent.proofs.receive_alone.Statement.{statement}
 use Rattle.lent.proofs.receive_alone.Tie as tie
 

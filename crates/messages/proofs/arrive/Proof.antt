@@ -6,8 +6,8 @@ use mir.Syntax.{w32}
 use Rattle.refusal.specs.Refusal.{topography, uri}
 use Rattle.md.specs.Md.{refusalOf}
 use Rattle.session_table.specs.Table as table
-use Rattle.session_table.proofs.Judged.{not-taken, not-local, not-sound, refused-follows}
-use Rattle.messages.proofs.Arrived.{passed-follows}
+use Rattle.session_table.proofs.Judged.{not-taken, not-local, not-sound}
+use Rattle.messages.proofs.Arrived.{refused-follows, passed-follows}
 use borrow.Author.Needs.{needs}
 use Rattle.messages.proofs.arrive.Statement.{statement}
 use Rattle.messages.proofs.arrive.Tie as tie
@@ -24,15 +24,12 @@ enum-told c = search needs
 refusal-requires : tie.Need-refusal-requires
 refusal-requires c κs = search needs
 
-refuse-requires : tie.Need-refuse-requires
-refuse-requires c κs = search needs
-
 returns : tie.Need-returns
 returns c =
-    let a = c .before .before .before .before .before .before .args in
-    let e = c .before .before .enum-told .given .1 in
-    refused-follows (a .a) (a .datagram .now) (a .t) (c .before .refusal .result) (c .refuse .result)
-    (not-taken (a .a) (a .datagram .now) _ (sym (c .before .before .before .before .take-md .ensures) ∙ e) ∙ ap table.refusal (sym (c .before .refusal .ensures ∙ ap refusalOf e))) (c .refuse .ensures)
+    let a = c .before .before .before .before .before .args in
+    let e = c .before .enum-told .given .1 in
+    let n = c .refusal .result in
+    refused-follows (a .a) (a .datagram .now) (a .octets .now) n (not-taken (a .a) (a .datagram .now) _ (sym (c .before .before .before .take-md .ensures) ∙ e) ∙ ap table.refusal (sym (c .refusal .ensures ∙ ap refusalOf e)))
 
 is-local-requires : tie.Need-is-local-requires
 is-local-requires c κs = search needs
@@ -51,27 +48,18 @@ follow-requires c κs = search needs
 
 returns-2 : tie.Need-returns-2
 returns-2 c =
-    let a = c .before .before .before .before .before .before .before .before .before .before .before .before .before .before .args in
-    passed-follows (a .a) (a .datagram .now) _ (sym (c .before .before .before .before .before .before .before .before .before .before .before .before .take-md .ensures) ∙ c .before .before .before .before .before .before .before .before .before .before .taken .given .1) (c .before .before .before .session-id .result) (c .before .destination-uri .result .now) (toZ w32 (ofZ w32 (c .before .before .before .before .before .before .before .before .before .before .taken .given .0 .0 .«reply_status»)))
-    (sym (c .before .before .before .before .before .before .before .is-local .ensures) ∙ c .before .before .before .before .before .before .if1 .taken) (sym (c .before .before .before .before .before .has-sound-uris .ensures) ∙ c .before .before .before .before .if2 .taken) (c .before .before .before .session-id .ensures) (c .before .destination-uri .ensures) (toZ-ofZ (search needs)) (a .t) (c .follow .result) (c .follow .ensures)
-
-refuse-requires-2 : tie.Need-refuse-requires-2
-refuse-requires-2 c κs = search needs
+    let a = c .before .before .before .before .before .before .before .before .before .before .before .before .before .before .before .args in
+    passed-follows (a .a) (a .datagram .now) _ (sym (c .before .before .before .before .before .before .before .before .before .before .before .before .before .take-md .ensures) ∙ c .before .before .before .before .before .before .before .before .before .before .before .taken .given .1) (c .before .before .before .before .session-id .result) (c .before .destination-uri .result .now) (toZ w32 (ofZ w32 (c .before .before .before .before .before .before .before .before .before .before .before .taken .given .0 .0 .«reply_status»))) (sym (c .before .before .before .before .before .before .before .before .is-local .ensures) ∙ c .before .before .before .before .before .before .before .if1 .taken) (sym (c .before .before .before .before .before .before .has-sound-uris .ensures) ∙ c .before .before .before .before .before .if2 .taken) (c .before .before .before .before .session-id .ensures) (c .before .destination-uri .ensures) (toZ-ofZ (search needs)) (a .octets .now) _ _ (c .follow .ensures)
 
 returns-3 : tie.Need-returns-3
 returns-3 c =
-    let a = c .before .before .before .before .before .before .before .before .before .before .before .args in
-    refused-follows (a .a) (a .datagram .now) (a .t) uri (c .refuse2 .result)
-    (not-sound (a .a) (a .datagram .now) _ (sym (c .before .before .before .before .before .before .before .before .before .take-md .ensures) ∙ c .before .before .before .before .before .before .before .taken .given .1) (sym (c .before .before .before .before .is-local .ensures) ∙ c .before .before .before .if1 .taken) (sym (c .before .before .has-sound-uris .ensures) ∙ c .before .if2 .left)) (c .refuse2 .ensures)
-
-refuse-requires-3 : tie.Need-refuse-requires-3
-refuse-requires-3 c κs = search needs
+    let a = c .before .before .before .before .before .before .before .before .before .before .args in
+    refused-follows (a .a) (a .datagram .now) (a .octets .now) uri (not-sound (a .a) (a .datagram .now) _ (sym (c .before .before .before .before .before .before .before .before .take-md .ensures) ∙ c .before .before .before .before .before .before .taken .given .1) (sym (c .before .before .before .is-local .ensures) ∙ c .before .before .if1 .taken) (sym (c .before .has-sound-uris .ensures) ∙ c .if2 .left))
 
 returns-4 : tie.Need-returns-4
 returns-4 c =
-    let a = c .before .before .before .before .before .before .before .before .before .args in
-    refused-follows (a .a) (a .datagram .now) (a .t) topography (c .refuse3 .result)
-    (not-local (a .a) (a .datagram .now) _ (sym (c .before .before .before .before .before .before .before .take-md .ensures) ∙ c .before .before .before .before .before .taken .given .1) (sym (c .before .before .is-local .ensures) ∙ c .before .if1 .left)) (c .refuse3 .ensures)
+    let a = c .before .before .before .before .before .before .before .before .args in
+    refused-follows (a .a) (a .datagram .now) (a .octets .now) topography (not-local (a .a) (a .datagram .now) _ (sym (c .before .before .before .before .before .before .take-md .ensures) ∙ c .before .before .before .before .taken .given .1) (sym (c .before .is-local .ensures) ∙ c .if1 .left))
 
 pub arrive-spec : {M : Type 1} → statement M
 arrive-spec =
@@ -81,7 +69,6 @@ arrive-spec =
     enum-known-taken
     enum-told
     refusal-requires
-    refuse-requires
     returns
     is-local-requires
     has-sound-uris-requires
@@ -89,7 +76,5 @@ arrive-spec =
     destination-uri-requires
     follow-requires
     returns-2
-    refuse-requires-2
     returns-3
-    refuse-requires-3
     returns-4)

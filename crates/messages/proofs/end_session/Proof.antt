@@ -1,12 +1,10 @@
--- The session that was found is freed.
+-- The session that was found is written, or none was found.
 use mathlib.Core.Path.{sym, _∙_}
-use Rattle.session.specs.Session.{canTake, waitsOf}
-use Rattle.session_table.specs.Table.{ended}
-use Rattle.messages.proofs.Arrived.{untaken, takes}
-use Rattle.tables.specs.Lists.{lowest}
 use mir.Facts.{toZ-ofZ}
-use mir.Val.{ofZ, toZ}
-use mir.Syntax.{w32}
+use Rattle.session.specs.Session.{waitsOf}
+use Rattle.session_table.specs.Table.{ended}
+use Rattle.messages.specs.Arriving.{byIdentifier}
+use Rattle.messages.proofs.Arrived.{untaken, takes}
 use borrow.Author.Needs.{needs}
 use Rattle.messages.proofs.end_session.Statement.{statement}
 use Rattle.messages.proofs.end_session.Tie as tie
@@ -20,24 +18,21 @@ enum-known-f c = search needs
 enum-told : tie.Need-enum-told
 enum-told c = search needs
 
-refuse-requires : tie.Need-refuse-requires
-refuse-requires c κs = search needs
-
 returns : tie.Need-returns
 returns c =
     let a = c .before .before .before .before .before .before .args in
-    untaken (a .t) (lowest (canTake (waitsOf (a .w)) (a .m .id)) (a .t .sessions)) ended (a .m .status) (sym (c .before .before .before .find-session .ensures) ∙ c .before .enum-told .given .1) (c .refuse .result) (c .refuse .ensures)
+    untaken (a .octets .now) (byIdentifier (a .m)) (waitsOf (a .w)) ended (sym (c .before .before .find-session .ensures) ∙ c .enum-told .given .1)
 
 no-session-requires : tie.Need-no-session-requires
 no-session-requires c κs = search needs
 
-keep-requires : tie.Need-keep-requires
-keep-requires c κs = search needs
+put-session-requires : tie.Need-put-session-requires
+put-session-requires c κs = search needs
 
 returns-2 : tie.Need-returns-2
 returns-2 c =
-    let a = c .before .before .before .before .before .before .before .before .before .args in
-    takes (a .t) (lowest (canTake (waitsOf (a .w)) (a .m .id)) (a .t .sessions)) ended (a .m .status) _ (sym (c .before .before .before .before .before .before .find-session .ensures) ∙ c .before .before .before .before .f .given .1) (c .keep .result) (c .before .before .no-session .result) (c .before .before .no-session .ensures) (toZ w32 (ofZ w32 (a .m .status))) (toZ-ofZ (search needs)) (c .keep .ensures)
+    let a = c .before .before .before .before .before .before .before .before .before .before .before .args in
+    takes (a .octets .now) (byIdentifier (a .m)) (waitsOf (a .w)) ended _ (sym (c .before .before .before .before .before .before .before .find-session .ensures) ∙ c .before .before .before .before .before .f .given .1) _ (c .before .before .before .no-session .ensures) _ (toZ-ofZ (search needs)) _ (c .before .put-session .ensures)
 
 pub end-session-spec : {M : Type 1} → statement M
 end-session-spec =
@@ -46,8 +41,7 @@ end-session-spec =
     find-session-requires
     enum-known-f
     enum-told
-    refuse-requires
     returns
     no-session-requires
-    keep-requires
+    put-session-requires
     returns-2)

@@ -1,7 +1,6 @@
 -- The lowest listener that hears the telegram was found, or none.
 use mathlib.Core.Path.{sym, _∙_}
 use Rattle.messages.specs.Arriving.{heardBy}
-use Rattle.session_table.specs.Table.{hearing}
 use Rattle.messages.proofs.Arrived.{unheard, heard}
 use borrow.Author.Needs.{needs}
 use Rattle.messages.proofs.notify.Statement.{statement}
@@ -19,14 +18,17 @@ enum-told c = search needs
 returns : tie.Need-returns
 returns c =
     let a = c .before .before .before .before .before .args in
-    unheard (a .t) (hearing (heardBy (a .m) (a .destination .now)) (a .t .listeners)) (sym (c .before .before .find-listener .ensures) ∙ c .enum-told .given .1)
+    unheard (a .octets .now) (heardBy (a .m) (a .destination .now)) (sym (c .before .before .find-listener .ensures) ∙ c .enum-told .given .1)
 
 returns-2 : tie.Need-returns-2
 returns-2 c =
     let a = c .before .before .before .before .before .before .args in
-    heard (a .t) (hearing (heardBy (a .m) (a .destination .now)) (a .t .listeners)) _ (sym (c .before .before .before .find-listener .ensures) ∙ c .before .f .given .1)
+    heard (a .octets .now) (heardBy (a .m) (a .destination .now)) _ (sym (c .before .before .before .find-listener .ensures) ∙ c .before .f .given .1)
 
 pub notify-spec : {M : Type 1} → statement M
-notify-spec =
-    tie.close
-    (tie.spec find-listener-requires enum-known-f enum-told returns returns-2)
+notify-spec = tie.close (tie.spec
+    find-listener-requires
+    enum-known-f
+    enum-told
+    returns
+    returns-2)

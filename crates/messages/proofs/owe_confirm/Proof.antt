@@ -1,13 +1,10 @@
--- The session that was found owes a confirm.
+-- The session that was found is written, or none was found.
 use mathlib.Core.Path.{sym, ap, _∙_}
-use Rattle.session.specs.Session.{canTake, waitsForReply}
+use mir.Facts.{toZ-ofZ}
+use Rattle.session.specs.Session.{waitsForReply}
 use Rattle.session_table.specs.Table.{owing}
 use Rattle.messages.specs.Arriving.{byIdentifier}
 use Rattle.messages.proofs.Arrived.{untaken, takes}
-use Rattle.tables.specs.Lists.{lowest}
-use mir.Facts.{toZ-ofZ}
-use mir.Val.{ofZ, toZ}
-use mir.Syntax.{w32}
 use borrow.Author.Needs.{needs}
 use Rattle.messages.proofs.owe_confirm.Statement.{statement}
 use Rattle.messages.proofs.owe_confirm.Tie as tie
@@ -21,24 +18,21 @@ enum-known-f c = search needs
 enum-told : tie.Need-enum-told
 enum-told c = search needs
 
-refuse-requires : tie.Need-refuse-requires
-refuse-requires c κs = search needs
-
 returns : tie.Need-returns
 returns c =
     let a = c .before .before .before .before .before .before .args in
-    untaken (a .t) (lowest (canTake waitsForReply (a .m .id)) (a .t .sessions)) (owing (byIdentifier (a .m))) (a .m .status) (sym (c .before .before .before .find-session .ensures) ∙ c .before .enum-told .given .1) (c .refuse .result) (c .refuse .ensures)
+    untaken (a .octets .now) (byIdentifier (a .m)) waitsForReply (owing (byIdentifier (a .m))) (sym (c .before .before .find-session .ensures) ∙ c .enum-told .given .1)
 
 session-at-requires : tie.Need-session-at-requires
 session-at-requires c κs = search needs
 
-keep-requires : tie.Need-keep-requires
-keep-requires c κs = search needs
+put-session-requires : tie.Need-put-session-requires
+put-session-requires c κs = search needs
 
 returns-2 : tie.Need-returns-2
 returns-2 c =
-    let a = c .before .before .before .before .before .before .before .before .before .before .args in
-    takes (a .t) (lowest (canTake waitsForReply (a .m .id)) (a .t .sessions)) (owing (byIdentifier (a .m))) (a .m .status) _ (sym (c .before .before .before .before .before .before .before .find-session .ensures) ∙ c .before .before .before .before .before .f .given .1) (c .keep .result) _ (ap (owing (byIdentifier (a .m))) (c .before .before .before .session-at .ensures)) (toZ w32 (ofZ w32 (a .m .status))) (toZ-ofZ (search needs)) (c .keep .ensures)
+    let a = c .before .before .before .before .before .before .before .before .before .before .before .before .before .before .args in
+    takes (a .octets .now) (byIdentifier (a .m)) waitsForReply (owing (byIdentifier (a .m))) _ (sym (c .before .before .before .before .before .before .before .before .before .before .find-session .ensures) ∙ c .before .before .before .before .before .before .before .before .f .given .1) _ (ap (owing (byIdentifier (a .m))) (c .before .before .before .before .session-at .ensures)) _ (toZ-ofZ (search needs)) _ (c .before .put-session .ensures)
 
 pub owe-confirm-spec : {M : Type 1} → statement M
 owe-confirm-spec =
@@ -47,8 +41,7 @@ owe-confirm-spec =
     find-session-requires
     enum-known-f
     enum-told
-    refuse-requires
     returns
     session-at-requires
-    keep-requires
+    put-session-requires
     returns-2)

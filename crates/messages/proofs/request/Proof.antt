@@ -1,7 +1,6 @@
 -- A session is opened where a listener hears the request.
 use mathlib.Core.Path.{sym, _∙_}
 use Rattle.messages.specs.Arriving.{heardBy}
-use Rattle.session_table.specs.Table.{hearing}
 use Rattle.messages.proofs.Arrived.{unrequested, requests}
 use borrow.Author.Needs.{needs}
 use Rattle.messages.proofs.request.Statement.{statement}
@@ -18,8 +17,8 @@ enum-told c = search needs
 
 returns : tie.Need-returns
 returns c =
-    let a = c .before .before .before .before .before .args in
-    unrequested (a .t) (hearing (heardBy (a .m) (a .destination .now)) (a .t .listeners)) (sym (c .before .before .find-listener .ensures) ∙ c .enum-told .given .1) (heardBy (a .m) (a .destination .now))
+    let a = c .before .before .before .before .before .before .args in
+    unrequested (a .octets .now) (heardBy (a .m) (a .destination .now)) (sym (c .before .before .find-listener .ensures) ∙ c .enum-told .given .1)
 
 open-requires : tie.Need-open-requires
 open-requires c κs = search needs
@@ -30,7 +29,7 @@ requested-as-requires c κs = search needs
 returns-2 : tie.Need-returns-2
 returns-2 c =
     let a = c .before .before .before .before .before .before .before .before .before .before .before .args in
-    requests (a .t) (hearing (heardBy (a .m) (a .destination .now)) (a .t .listeners)) _ (sym (c .before .before .before .before .before .before .before .before .find-listener .ensures) ∙ c .before .before .before .before .before .before .f .given .1) (heardBy (a .m) (a .destination .now)) (c .before .before .«open» .result) (c .requested-as .result) (c .before .before .«open» .ensures) (c .requested-as .ensures)
+    requests (a .octets .now) (heardBy (a .m) (a .destination .now)) _ (sym (c .before .before .before .before .before .before .before .find-listener .ensures) ∙ c .before .before .before .before .before .f .given .1) _ _ _ (c .before .«open» .ensures) (c .requested-as .ensures)
 
 pub request-spec : {M : Type 1} → statement M
 request-spec =

@@ -1,6 +1,6 @@
 -- The identifier is sought, then a free slot.
 use mathlib.Core.Path.{sym, _∙_}
-use Rattle.session_table.proofs.Places.{found-none, found-some}
+use Rattle.session_table.proofs.Searches.{found-none, found-some}
 use Rattle.session.specs.Session.{has}
 use Rattle.packed.specs.Packed.{tablesOf}
 use Rattle.session_table.proofs.Searches.{asked}

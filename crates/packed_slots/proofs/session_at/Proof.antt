@@ -1,7 +1,7 @@
 -- The record is read at its place; behind the last slot there is none.
 use mathlib.Core.Path.{_∙_}
 use native.Mathlib.Omega.{arith}
-use Rattle.session_table.proofs.Arrays.{outside}
+use Rattle.tables.proofs.Arrays.{outside}
 use Rattle.session.specs.Session.{freeSession}
 use Rattle.packed.specs.Packed.{tablesOf}
 use Rattle.packed_slots.proofs.Places.{sessions-long, session-read}

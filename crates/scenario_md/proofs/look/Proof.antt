@@ -1,9 +1,9 @@
 -- The verb is one of these, or another.
-use borrow.Author.Needs.{needs}
 use mathlib.Core.Path.{refl, sym, _∙_}
 use Rattle.line.proofs.Fields.{chosen, passed}
 use Rattle.scenario_md.specs.Lines.{lookAsked}
 use Rattle.scenario_md.proofs.Served.{asks, unserved}
+use borrow.Author.Needs.{needs}
 use Rattle.scenario_md.proofs.look.Statement.{statement}
 use Rattle.scenario_md.proofs.look.Tie as tie
 
@@ -23,7 +23,7 @@ returns : tie.Need-returns
 unfolding lookAsked
 returns c =
     asks (c .before .before .check .ensures)
-    (chosen _ _ _ (sym (c .before .before .before .before .before .is-verb .ensures) ∙ c .before .before .before .before .if1 .taken) refl)
+    (chosen _ _ _ (sym (c .before .before .before .before .before .before .is-verb .ensures) ∙ c .before .before .before .before .before .if1 .taken) refl)
 
 slice-aggregate-is-verb-2 : tie.Need-slice-aggregate-is-verb-2
 slice-aggregate-is-verb-2 c = search needs
@@ -41,18 +41,15 @@ returns-2 : tie.Need-returns-2
 unfolding lookAsked
 returns-2 c =
     asks (c .before .before .session .ensures)
-    (passed _ _ _ (sym (c .before .before .before .before .before .before .before .before .is-verb .ensures) ∙ c .before .before .before .before .before .before .before .if1 .left)
-    (chosen _ _ _ (sym (c .before .before .before .before .before .is-verb2 .ensures) ∙ c .before .before .before .before .if2 .taken) refl))
-
-bad-requires : tie.Need-bad-requires
-bad-requires c κs = search needs
+    (passed _ _ _ (sym (c .before .before .before .before .before .before .before .before .before .is-verb .ensures) ∙ c .before .before .before .before .before .before .before .before .if1 .left)
+    (chosen _ _ _ (sym (c .before .before .before .before .before .before .is-verb2 .ensures) ∙ c .before .before .before .before .before .if2 .taken) refl))
 
 returns-3 : tie.Need-returns-3
 unfolding lookAsked
 returns-3 c =
-    asks (unserved (c .before .before .before .before .before .before .before .before .before .args .t) (c .before .before .before .before .before .before .before .before .before .args .at) (c .before .before .before .before .before .before .before .before .before .args .out .now) (c .bad .ensures))
-    (passed _ _ _ (sym (c .before .before .before .before .before .is-verb .ensures) ∙ c .before .before .before .before .if1 .left)
-    (passed _ _ _ (sym (c .before .before .is-verb2 .ensures) ∙ c .before .if2 .left) refl))
+    asks unserved
+    (passed _ _ _ (sym (c .before .before .before .before .is-verb .ensures) ∙ c .before .before .before .if1 .left)
+    (passed _ _ _ (sym (c .before .is-verb2 .ensures) ∙ c .if2 .left) refl))
 
 pub look-spec : {M : Type 1} → statement M
 look-spec =
@@ -68,5 +65,4 @@ look-spec =
     session-requires
     same-length-2
     returns-2
-    bad-requires
     returns-3)

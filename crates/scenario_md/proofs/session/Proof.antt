@@ -1,11 +1,11 @@
 -- The fields are read one after the other; the line ends behind the last, or it asks nothing.
-use borrow.Author.Needs.{needs}
-use mathlib.Core.Path.{_≡_, refl, sym, _∙_}
+use mathlib.Core.Path.{_≡_, sym, _∙_}
 use mathlib.Core.Bool.{true, false}
 use Rattle.line.specs.Line.{readTo, ends}
 use Rattle.line.proofs.Fields.{ended, first-number, unended}
 use Rattle.scenario_md.specs.Lines.{sessionAsked}
 use Rattle.scenario_md.proofs.Served.{asks, shown, unserved, same-look}
+use borrow.Author.Needs.{needs}
 use Rattle.scenario_md.proofs.session.Statement.{statement}
 use Rattle.scenario_md.proofs.session.Tie as tie
 
@@ -21,11 +21,14 @@ is-end-requires c κs = search needs
 word-requires : tie.Need-word-requires
 word-requires c κs = search needs
 
-cast-put-place : tie.Need-cast-put-place
-cast-put-place c = search needs
+cast-slot : tie.Need-cast-slot
+cast-slot c = search needs
 
-put-place-requires : tie.Need-put-place-requires
-put-place-requires c κs = search needs
+session-at-requires : tie.Need-session-at-requires
+session-at-requires c κs = search needs
+
+put-slot-requires : tie.Need-put-slot-requires
+put-slot-requires c κs = search needs
 
 same-length : tie.Need-same-length
 same-length c = search needs
@@ -33,26 +36,21 @@ same-length c = search needs
 returns : tie.Need-returns
 unfolding sessionAsked
 returns c =
-    let s = c .before .before .before .before .before .before .before .before .before .before .before .args .s .now in
-    let b = c .before .before .before .before .before .before .before .before .behind in
-    let f1 = c .before .before .before .before .before .before .before .number in
-    let e : ends s (f1 .result) ≡ true = sym (c .before .before .before .before .before .before .is-end .ensures) ∙ c .before .before .before .before .before .if1 .taken in
-    asks (shown (c .before .before .before .word .result) (c .before .before .put-place .ensures) refl)
-    (first-number s (b .result) (readTo 0 7) (f1 .result) 8 _ (b .ensures) (f1 .ensures)
-    (ended s (f1 .result) _ e (same-look (c .before .before .before .word .ensures))))
-
-bad-requires : tie.Need-bad-requires
-bad-requires c κs = search needs
+    let s = c .before .before .before .before .before .before .before .before .before .before .before .before .before .before .args .s .now in
+    let f1 = c .before .before .before .before .before .before .before .before .before .before .number in
+    let e : ends s (f1 .result) ≡ true = sym (c .before .before .before .before .before .before .before .before .before .is-end .ensures) ∙ c .before .before .before .before .before .before .before .before .if1 .taken in
+    asks (shown (c .before .before .before .before .before .before .before .word .result) (c .before .before .before .before .session-at .result) (c .before .before .before .before .session-at .ensures) (c .before .before .put-slot .ensures))
+    (first-number s (c .before .before .before .before .before .before .before .before .before .before .before .behind .result) (readTo 0 7) (f1 .result) 8 _ (c .before .before .before .before .before .before .before .before .before .before .before .behind .ensures) (f1 .ensures)
+    (ended s (f1 .result) _ e (same-look (c .before .before .before .before .before .before .before .word .ensures))))
 
 returns-2 : tie.Need-returns-2
 unfolding sessionAsked
 returns-2 c =
-    let s = c .before .before .before .before .before .before .before .args .s .now in
-    let b = c .before .before .before .before .behind in
-    let f1 = c .before .before .before .number in
-    let e : ends s (f1 .result) ≡ false = sym (c .before .before .is-end .ensures) ∙ c .before .if1 .left in
-    asks (unserved (c .before .before .before .before .before .before .before .args .t) (c .before .before .before .before .before .before .before .args .at) (c .before .before .before .before .before .before .before .args .out .now) (c .bad .ensures))
-    (first-number s (b .result) (readTo 0 7) (f1 .result) 8 _ (b .ensures) (f1 .ensures)
+    let s = c .before .before .before .before .before .before .args .s .now in
+    let f1 = c .before .before .number in
+    let e : ends s (f1 .result) ≡ false = sym (c .before .is-end .ensures) ∙ c .if1 .left in
+    asks unserved
+    (first-number s (c .before .before .before .behind .result) (readTo 0 7) (f1 .result) 8 _ (c .before .before .before .behind .ensures) (f1 .ensures)
     (unended s (f1 .result) _ e))
 
 pub session-spec : {M : Type 1} → statement M
@@ -63,9 +61,9 @@ session-spec =
     number-requires
     is-end-requires
     word-requires
-    cast-put-place
-    put-place-requires
+    cast-slot
+    session-at-requires
+    put-slot-requires
     same-length
     returns
-    bad-requires
     returns-2)

@@ -1,11 +1,11 @@
 -- The fields are read one after the other; the line ends behind the last, or it asks nothing.
-use borrow.Author.Needs.{needs}
 use mathlib.Core.Path.{_≡_, refl, sym, _∙_}
 use mathlib.Core.Bool.{true, false}
 use Rattle.line.specs.Line.{readTo, ends}
 use Rattle.line.proofs.Fields.{ended, first-number, unended}
 use Rattle.scenario_md.specs.Lines.{unlistenAsked}
-use Rattle.scenario_md.proofs.Served.{asks, told, unserved, same-unlisten}
+use Rattle.scenario_md.proofs.Served.{asks, served, unserved, same-unlisten}
+use borrow.Author.Needs.{needs}
 use Rattle.scenario_md.proofs.unlisten.Statement.{statement}
 use Rattle.scenario_md.proofs.unlisten.Tie as tie
 
@@ -27,8 +27,8 @@ cast-unlisten c = search needs
 unlisten-requires : tie.Need-unlisten-requires
 unlisten-requires c κs = search needs
 
-tell-requires : tie.Need-tell-requires
-tell-requires c κs = search needs
+put-answer-requires : tie.Need-put-answer-requires
+put-answer-requires c κs = search needs
 
 same-length : tie.Need-same-length
 same-length c = search needs
@@ -36,26 +36,21 @@ same-length c = search needs
 returns : tie.Need-returns
 unfolding unlistenAsked
 returns c =
-    let s = c .before .before .before .before .before .before .before .before .before .before .before .before .args .s .now in
-    let b = c .before .before .before .before .before .before .before .before .before .behind in
-    let f1 = c .before .before .before .before .before .before .before .before .number in
-    let e : ends s (f1 .result) ≡ true = sym (c .before .before .before .before .before .before .before .is-end .ensures) ∙ c .before .before .before .before .before .before .if1 .taken in
-    asks (told (c .before .before .before .before .unlisten .ensures) (c .before .before .tell .ensures) (λ x. refl) (λ x n. refl))
-    (first-number s (b .result) (readTo 0 8) (f1 .result) 8 _ (b .ensures) (f1 .ensures)
+    let s = c .before .before .before .before .before .before .before .before .before .before .before .before .before .args .s .now in
+    let f1 = c .before .before .before .before .before .before .before .before .before .number in
+    let e : ends s (f1 .result) ≡ true = sym (c .before .before .before .before .before .before .before .before .is-end .ensures) ∙ c .before .before .before .before .before .before .before .if1 .taken in
+    asks (served (c .before .before .before .before .unlisten .ensures) (c .before .before .put-answer .ensures) (λ x. refl) (λ x n. refl))
+    (first-number s (c .before .before .before .before .before .before .before .before .before .before .behind .result) (readTo 0 8) (f1 .result) 8 _ (c .before .before .before .before .before .before .before .before .before .before .behind .ensures) (f1 .ensures)
     (ended s (f1 .result) _ e (same-unlisten (c .before .before .before .before .before .word .ensures))))
-
-bad-requires : tie.Need-bad-requires
-bad-requires c κs = search needs
 
 returns-2 : tie.Need-returns-2
 unfolding unlistenAsked
 returns-2 c =
-    let s = c .before .before .before .before .before .before .before .args .s .now in
-    let b = c .before .before .before .before .behind in
-    let f1 = c .before .before .before .number in
-    let e : ends s (f1 .result) ≡ false = sym (c .before .before .is-end .ensures) ∙ c .before .if1 .left in
-    asks (unserved (c .before .before .before .before .before .before .before .args .t) (c .before .before .before .before .before .before .before .args .at) (c .before .before .before .before .before .before .before .args .out .now) (c .bad .ensures))
-    (first-number s (b .result) (readTo 0 8) (f1 .result) 8 _ (b .ensures) (f1 .ensures)
+    let s = c .before .before .before .before .before .before .args .s .now in
+    let f1 = c .before .before .number in
+    let e : ends s (f1 .result) ≡ false = sym (c .before .is-end .ensures) ∙ c .if1 .left in
+    asks unserved
+    (first-number s (c .before .before .before .behind .result) (readTo 0 8) (f1 .result) 8 _ (c .before .before .before .behind .ensures) (f1 .ensures)
     (unended s (f1 .result) _ e))
 
 pub unlisten-spec : {M : Type 1} → statement M
@@ -68,8 +63,7 @@ unlisten-spec =
     word-requires
     cast-unlisten
     unlisten-requires
-    tell-requires
+    put-answer-requires
     same-length
     returns
-    bad-requires
     returns-2)

@@ -1,6 +1,6 @@
 -- The loop's invariant: what is left to put from here gives the room that all of them give.
 use mir.Facts.{toZ-ofZ}
-use Rattle.session_table.proofs.Arrays.{length-mapped}
+use Rattle.tables.proofs.Arrays.{length-mapped}
 use lib.IntN.{pos}
 use borrow.Author.Needs.{needs}
 use native.Mathlib.Omega.{arith}

@@ -2,8 +2,7 @@
 use mathlib.Core.Path.{_∙_}
 use native.Mathlib.Omega.{arith}
 use Rattle.subscription.specs.Record.{freeRecord}
-use Rattle.lent.proofs.Serving.{length-mapped}
-use Rattle.scenario_pd_look.proofs.Shown.{outside}
+use Rattle.tables.proofs.Arrays.{length-mapped, outside}
 use borrow.Author.Needs.{needs}
 use Rattle.scenario_pd_look.proofs.record_at.Statement.{statement}
 use Rattle.scenario_pd_look.proofs.record_at.Tie as tie

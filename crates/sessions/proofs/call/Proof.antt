@@ -1,6 +1,6 @@
--- The opening answers and leaves what the rule says.
-use borrow.Author.Needs.{needs}
+-- What the opening answers and wrote.
 use Rattle.sessions.proofs.Answers.{called}
+use borrow.Author.Needs.{needs}
 use Rattle.sessions.proofs.call.Statement.{statement}
 use Rattle.sessions.proofs.call.Tie as tie
 
@@ -12,8 +12,11 @@ opened-as-requires c κs = search needs
 
 returns : tie.Need-returns
 returns c =
-    let a = c .before .before .before .before .before .args in
-    called (a .id) (a .timeout) (a .time) (a .t) (c .before .before .before .«open» .result) (c .opened-as .result) (c .before .before .before .«open» .ensures) (c .opened-as .ensures)
+    let a = c .before .before .before .args in
+    called (a .id) (a .timeout) (a .time) (a .octets .now) _ (c .before .«open» .result) (c .opened-as .result) (c .before .«open» .ensures) (c .opened-as .ensures)
 
 pub call-spec : {M : Type 1} → statement M
-call-spec = tie.close (tie.spec open-requires opened-as-requires returns)
+call-spec = tie.close (tie.spec
+    open-requires
+    opened-as-requires
+    returns)

@@ -1,10 +1,11 @@
--- The type is asked first; then the session of the slot decides: free, with the user, or in another state.
-use mathlib.Core.Path.{sym, _∙_}
-use borrow.Author.Needs.{needs}
-use Rattle.session_table.specs.declared.Answer.the-variants.{Replied}
-use Rattle.session_table.specs.Table as table
-use Rattle.session.specs.Session.{isWithUser}
+-- The record of the slot decides, and is written where it changed.
+use mathlib.Core.Path.{refl, sym, _∙_}
 use Rattle.sessions.proofs.Answers.{slot-free, slot-done, slot-other, reply-step, reply-none}
+use Rattle.session.specs.Session.{isWithUser}
+use Rattle.session_table.specs.Table as table
+use Rattle.session_table.specs.declared.Answer.the-variants.{Replied}
+use Rattle.packed.specs.Packed.{tablesOf}
+use borrow.Author.Needs.{needs}
 use Rattle.sessions.proofs.reply.Statement.{statement}
 use Rattle.sessions.proofs.reply.Tie as tie
 
@@ -17,13 +18,10 @@ session-at-requires c κs = search needs
 is-free-requires : tie.Need-is-free-requires
 is-free-requires c κs = search needs
 
-refuse-requires : tie.Need-refuse-requires
-refuse-requires c κs = search needs
-
 returns : tie.Need-returns
 returns c =
     let a = c .before .before .before .before .before .before .before .args in
-    slot-free (table.reply (a .k) (a .msg-type) (a .timeout) (a .time)) (a .t) (c .refuse .result) isWithUser Replied (table.answered (a .msg-type) (a .timeout) (a .time)) (a .k) (reply-step (a .k) (a .msg-type) (a .timeout) (a .time) (a .t) (sym (c .before .before .before .before .before .before .is-reply .ensures) ∙ c .before .before .before .before .before .if1 .taken)) (c .before .before .before .session-at .result) (c .before .before .before .session-at .ensures) (sym (c .before .before .is-free .ensures) ∙ c .before .if2 .taken) (c .refuse .ensures)
+    slot-free (table.reply (a .k) (a .msg-type) (a .timeout) (a .time)) (a .octets .now) isWithUser Replied (table.answered (a .msg-type) (a .timeout) (a .time)) (a .k) (reply-step (a .k) (a .msg-type) (a .timeout) (a .time) (tablesOf (a .octets .now)) (sym (c .before .before .before .before .before .before .is-reply .ensures) ∙ c .before .before .before .before .before .if1 .taken)) (c .before .before .session-at .result) (c .before .before .session-at .ensures) (sym (c .before .is-free .ensures) ∙ c .if2 .taken)
 
 is-with-user-requires : tie.Need-is-with-user-requires
 is-with-user-requires c κs = search needs
@@ -31,29 +29,23 @@ is-with-user-requires c κs = search needs
 answer-as-requires : tie.Need-answer-as-requires
 answer-as-requires c κs = search needs
 
-keep-requires : tie.Need-keep-requires
-keep-requires c κs = search needs
+put-session-requires : tie.Need-put-session-requires
+put-session-requires c κs = search needs
 
 returns-2 : tie.Need-returns-2
 returns-2 c =
-    let a = c .before .before .before .before .before .before .before .before .before .before .args in
-    slot-done (table.reply (a .k) (a .msg-type) (a .timeout) (a .time)) (a .t) (c .keep .result) isWithUser Replied (table.answered (a .msg-type) (a .timeout) (a .time)) (a .k) (reply-step (a .k) (a .msg-type) (a .timeout) (a .time) (a .t) (sym (c .before .before .before .before .before .before .before .before .before .is-reply .ensures) ∙ c .before .before .before .before .before .before .before .before .if1 .taken)) (c .before .before .before .before .before .before .session-at .result) (c .before .before .before .before .before .before .session-at .ensures) (sym (c .before .before .before .before .before .is-free .ensures) ∙ c .before .before .before .before .if2 .left) (sym (c .before .before .before .is-with-user .ensures) ∙ c .before .before .if3 .taken) (c .before .answer-as .result) (c .before .answer-as .ensures) (c .keep .ensures)
-
-refuse-requires-2 : tie.Need-refuse-requires-2
-refuse-requires-2 c κs = search needs
+    let a = c .before .before .before .before .before .before .before .before .before .before .before .before .args in
+    slot-done (table.reply (a .k) (a .msg-type) (a .timeout) (a .time)) (a .octets .now) isWithUser Replied (table.answered (a .msg-type) (a .timeout) (a .time)) (a .k) (reply-step (a .k) (a .msg-type) (a .timeout) (a .time) (tablesOf (a .octets .now)) (sym (c .before .before .before .before .before .before .before .before .before .before .before .is-reply .ensures) ∙ c .before .before .before .before .before .before .before .before .before .before .if1 .taken)) (c .before .before .before .before .before .before .before .session-at .result) (c .before .before .before .before .before .before .before .session-at .ensures) (sym (c .before .before .before .before .before .before .is-free .ensures) ∙ c .before .before .before .before .before .if2 .left) (sym (c .before .before .before .before .is-with-user .ensures) ∙ c .before .before .before .if3 .taken) _ (c .before .before .answer-as .ensures) _ (c .put-session .ensures) (λ t. refl)
 
 returns-3 : tie.Need-returns-3
 returns-3 c =
     let a = c .before .before .before .before .before .before .before .before .before .args in
-    slot-other (table.reply (a .k) (a .msg-type) (a .timeout) (a .time)) (a .t) (c .refuse2 .result) isWithUser Replied (table.answered (a .msg-type) (a .timeout) (a .time)) (a .k) (reply-step (a .k) (a .msg-type) (a .timeout) (a .time) (a .t) (sym (c .before .before .before .before .before .before .before .before .is-reply .ensures) ∙ c .before .before .before .before .before .before .before .if1 .taken)) (c .before .before .before .before .before .session-at .result) (c .before .before .before .before .before .session-at .ensures) (sym (c .before .before .before .before .is-free .ensures) ∙ c .before .before .before .if2 .left) (sym (c .before .before .is-with-user .ensures) ∙ c .before .if3 .left) (c .refuse2 .ensures)
-
-refuse-requires-3 : tie.Need-refuse-requires-3
-refuse-requires-3 c κs = search needs
+    slot-other (table.reply (a .k) (a .msg-type) (a .timeout) (a .time)) (a .octets .now) isWithUser Replied (table.answered (a .msg-type) (a .timeout) (a .time)) (a .k) (reply-step (a .k) (a .msg-type) (a .timeout) (a .time) (tablesOf (a .octets .now)) (sym (c .before .before .before .before .before .before .before .before .is-reply .ensures) ∙ c .before .before .before .before .before .before .before .if1 .taken)) (c .before .before .before .before .session-at .result) (c .before .before .before .before .session-at .ensures) (sym (c .before .before .before .is-free .ensures) ∙ c .before .before .if2 .left) (sym (c .before .is-with-user .ensures) ∙ c .if3 .left)
 
 returns-4 : tie.Need-returns-4
 returns-4 c =
-    let a = c .before .before .before .args in
-    reply-none (a .k) (a .msg-type) (a .timeout) (a .time) (a .t) (sym (c .before .before .is-reply .ensures) ∙ c .before .if1 .left) (c .refuse3 .result) (c .refuse3 .ensures)
+    let a = c .before .before .args in
+    reply-none (a .k) (a .msg-type) (a .timeout) (a .time) (a .octets .now) (sym (c .before .is-reply .ensures) ∙ c .if1 .left)
 
 pub reply-spec : {M : Type 1} → statement M
 reply-spec =
@@ -62,13 +54,10 @@ reply-spec =
     is-reply-requires
     session-at-requires
     is-free-requires
-    refuse-requires
     returns
     is-with-user-requires
     answer-as-requires
-    keep-requires
+    put-session-requires
     returns-2
-    refuse-requires-2
     returns-3
-    refuse-requires-3
     returns-4)

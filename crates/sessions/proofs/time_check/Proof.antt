@@ -1,37 +1,28 @@
 -- The loop's invariant: below i the sessions and codes are those after the check, from i on the sessions are as they were.
-use mathlib.Core.Path.{_≡_, refl, ap, ap₂, _∙_}
-use mathlib.Core.List.{List}
+use mathlib.Core.Path.{_≡_, refl, ap, _∙_}
 use Prim.Native.Nat.{_≤_, _-_}
 use native.Mathlib.Omega.{arith}
+use lib.ListN.{length}
 use mir.Val.{toZ, ofZ}
 use mir.Syntax.{w32}
-use borrow.Author.Needs.{needs}
-use lib.ListN.{length, getD, set}
-use lib.IntN.{ℤ, pos}
+use Rattle.session.specs.Session.{codeOf}
 use Rattle.session.specs.declared.Session.{Session}
-use Rattle.session.specs.Session.{codeOf, expired}
-use Rattle.sessions.proofs.Answers.{checked}
-use Rattle.session_table.proofs.Arrays.{length-mapped, blankSession}
-use Rattle.session_table.proofs.Filled.{filled, filled-more, filled-next, filled-all}
+use Rattle.sessions.proofs.Checking.{Turned, turned-none, turned-more, turned-all}
+use borrow.Author.Needs.{needs}
 use Rattle.sessions.proofs.time_check.Statement.{statement}
 use Rattle.sessions.proofs.time_check.Tie as tie
 
 abbrev Inv-loop : tie.InvT-loop
-Inv-loop time ls xs₀ codes₀ i₀ xs codes i =
-    (i ≤ 16) × (length xs₀ ≡ 16) × (length codes₀ ≡ 16) × (xs ≡ filled (expired time) xs₀ xs₀ i)
-    × (codes ≡ filled (λ x. codeOf time (x .state)) xs₀ codes₀ i)
+Inv-loop octets₀ time codes₀ i₀ octets codes i = (i ≤ 16) × (length codes₀ ≡ 16) × Turned time octets₀ codes₀ octets codes i
 
 abbrev μ-loop : tie.MeasureT-loop
-μ-loop time ls xs₀ codes₀ i₀ xs codes i = 16 - i
+μ-loop octets₀ time codes₀ i₀ octets codes i = 16 - i
 
 loop-holds : tie.Need-loop-holds Inv-loop μ-loop
-loop-holds c = (omega arith, search (needs, length-mapped), refl, refl, refl)
+loop-holds c = (omega arith, refl, turned-none _ _ _ refl)
 
-mul-x : tie.Need-mul-x Inv-loop μ-loop
-mul-x c = search needs
-
-array-copy-out-x : tie.Need-array-copy-out-x Inv-loop μ-loop
-array-copy-out-x c = search needs
+session-at-requires : tie.Need-session-at-requires Inv-loop μ-loop
+session-at-requires c κs = search needs
 
 code-of-requires : tie.Need-code-of-requires Inv-loop μ-loop
 code-of-requires c κs = search needs
@@ -45,12 +36,6 @@ array-set-from-codes c = search needs
 expire-requires : tie.Need-expire-requires Inv-loop μ-loop
 expire-requires c κs = search needs
 
-mul-xs : tie.Need-mul-xs Inv-loop μ-loop
-mul-xs c = search needs
-
-array-set-from-xs : tie.Need-array-set-from-xs Inv-loop μ-loop
-array-set-from-xs c = search needs
-
 add-i : tie.Need-add-i Inv-loop μ-loop
 add-i c = search needs
 
@@ -59,30 +44,16 @@ loop-less c = search needs
 
 loop-again : tie.Need-loop-again Inv-loop μ-loop
 loop-again c =
-    let l = c .before .before .before .before .loop in
-    let a = c .before .before .before .before .before .before .before .args in
-    let n = l .inv .1 in
-    let g : getD (l .xs) (l .i) blankSession ≡ getD (a .t .sessions) (l .i) blankSession =
-    ap (λ (x : List Session). getD x (l .i) blankSession) (l .inv .3)
-    ∙ filled-next (expired (a .time)) (a .t .sessions) (a .t .sessions) (l .i) blankSession (omega arith) (omega arith) in
-    let z : toZ w32 (ofZ w32 (c .before .code-of .result)) ≡ c .before .code-of .result = search needs in (
-      omega arith,
-      l .inv .1,
-      l .inv .2,
-      ap₂ (λ (x : List Session) (y : Session). set x (l .i) y) (l .inv .3) (c .expire .ensures ∙ ap (expired (a .time)) g)
-          ∙ filled-more (expired (a .time)) (a .t .sessions) (a .t .sessions) (l .i) blankSession blankSession (omega arith) (omega arith),
-      ap₂ (λ (x : List ℤ) (y : ℤ). set x (l .i) y) (l .inv .4) (z ∙ c .before .code-of .ensures ∙ ap (λ (x : Session). codeOf (a .time) (x .state)) g)
-          ∙ filled-more (λ (x : Session). codeOf (a .time) (x .state)) (a .t .sessions) _ (l .i) blankSession (pos 0) (omega arith) (omega arith),
-    )
+    let l = c .before .before .before .before .before .before .before .loop in
+    let a = c .before .before .before .before .before .before .before .before .args in
+    let z : toZ w32 (ofZ w32 (c .before .before .code-of .result)) ≡ c .before .before .code-of .result = search needs in
+    (omega arith, l .inv .1, turned-more (a .time) (a .octets .now) _ (l .inv .1) (l .octets) _ (l .codes) (l .i) _ (omega arith) (l .inv .2) (z ∙ c .before .before .code-of .ensures ∙ ap (λ (x : Session). codeOf (a .time) (x .state)) (c .before .before .before .session-at .ensures)) (c .expire .ensures))
 
 returns : tie.Need-returns Inv-loop μ-loop
 returns c =
     let l = c .before .loop in
-    let a = c .before .before .before .before .args in
-    let h : length (a .t .sessions) ≤ l .i = omega arith in
-    checked (a .time) (a .t) (l .xs) (l .codes)
-    (l .inv .3 ∙ filled-all (expired (a .time)) (a .t .sessions) (a .t .sessions) (l .i) h h)
-    (l .inv .4 ∙ filled-all (λ (x : Session). codeOf (a .time) (x .state)) (a .t .sessions) _ (l .i) h (omega arith))
+    let a = c .before .before .args in
+    turned-all (a .time) (a .octets .now) _ (l .inv .1) (l .octets) (l .codes) (l .i) (omega arith) (omega arith) (l .inv .2)
 
 pub time-check-spec : {M : Type 1} → statement M
 time-check-spec =
@@ -91,14 +62,11 @@ time-check-spec =
     Inv-loop
     μ-loop
     loop-holds
-    mul-x
-    array-copy-out-x
+    session-at-requires
     code-of-requires
     mul-codes
     array-set-from-codes
     expire-requires
-    mul-xs
-    array-set-from-xs
     add-i
     loop-less
     loop-again

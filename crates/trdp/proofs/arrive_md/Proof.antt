@@ -14,4 +14,7 @@ returns : tie.Need-returns
 returns c = arrives _ _ _ _ _ (c .before .arrive .ensures) _ (c .of-received .ensures)
 
 pub arrive-md-spec : {M : Type 1} → statement M
-arrive-md-spec = tie.close (tie.spec arrive-requires of-received-requires returns)
+arrive-md-spec = tie.close (tie.spec
+    arrive-requires
+    of-received-requires
+    returns)

@@ -26,4 +26,8 @@ returns c =
     follows-as (λ (u : List ℕ). table.calling u (a .timeout) (a .time)) _ (a .id .now) _ _ _ e (c .before .call .ensures) _ (c .of-told .ensures)
 
 pub trdp-call-spec : {M : Type 1} → statement M
-trdp-call-spec = tie.close (tie.spec sixteen-requires call-requires of-told-requires returns)
+trdp-call-spec = tie.close (tie.spec
+    sixteen-requires
+    call-requires
+    of-told-requires
+    returns)

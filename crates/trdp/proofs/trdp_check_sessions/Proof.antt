@@ -11,4 +11,6 @@ returns : tie.Need-returns
 returns c = checks _ _ _ _ (c .time-check .ensures)
 
 pub trdp-check-sessions-spec : {M : Type 1} → statement M
-trdp-check-sessions-spec = tie.close (tie.spec time-check-requires returns)
+trdp-check-sessions-spec = tie.close (tie.spec
+    time-check-requires
+    returns)

@@ -14,4 +14,7 @@ returns : tie.Need-returns
 returns c = follows _ _ _ _ (c .before .confirm .ensures) _ (c .of-told .ensures)
 
 pub trdp-confirm-spec : {M : Type 1} → statement M
-trdp-confirm-spec = tie.close (tie.spec confirm-requires of-told-requires returns)
+trdp-confirm-spec = tie.close (tie.spec
+    confirm-requires
+    of-told-requires
+    returns)

@@ -27,4 +27,8 @@ returns c =
 
 pub trdp-listen-spec : {M : Type 1} → statement M
 trdp-listen-spec =
-    tie.close (tie.spec thirty-two-requires listen-requires of-told-requires returns)
+    tie.close (tie.spec
+    thirty-two-requires
+    listen-requires
+    of-told-requires
+    returns)

@@ -53,7 +53,7 @@ use Rattle.statistics.specs.Statistics.{added}
 use Rattle.telegram.specs.declared.Family.the-variants.{Md}
 use denote.Array.{Array}
 use Rattle.session_table.specs.Table.{step as mdStep, telegram as mdTelegram}
-use Rattle.packed_calls.specs.Calls.{leftBy}
+use Rattle.packed_slots.specs.Calls.{octetsAfter}
 use Rattle.packed.specs.Packed.{tablesOf as unpacked}
 use Rattle.boundary.specs.declared.MdOutcome.{MdOutcome}
 use Rattle.boundary.specs.Sessions.{mdOutcomeOf}
@@ -147,7 +147,7 @@ module _ {M : Type 1} (𝓤 : URA M) (H : Heap 𝓤) (A : Atoms 𝓤) (W : Given
             move ! (21 ∷ 22 ∷ 19 ∷ 20 ∷ 17 ∷ 18 ∷ 15 ∷ 16 ∷ 13 ∷ 14 ∷ 11 ∷ 12 ∷ 9 ∷ 10 ∷ 7 ∷ 8 ∷ 5 ∷ 6 ∷ 3 ∷ 4 ∷ []) $
             frees-all En (someᴼ _ ∷ someᴼ _ ∷ someᴼ _ ∷ someᴼ _ ∷ someᴼ _ ∷ someᴼ _ ∷ someᴼ _ ∷ someᴼ _ ∷ someᴼ _ ∷ someᴼ _ ∷ []) ! $
             keep ! (1 ∷ 0 ∷ 2 ∷ []) $
-            by ! (exits (mdOutcomeOf ((mdStep (mdTelegram (ar) (d)) (unpacked (tb))) .answer)) (leftBy (mdTelegram (ar) (d)) ((mdStep (mdTelegram (ar) (d)) (unpacked (tb))) .answer) ((mdStep (mdTelegram (ar) (d)) (unpacked (tb))) .after) (tb)) (added (Md) ((mdOutcomeOf ((mdStep (mdTelegram (ar) (d)) (unpacked (tb))) .answer)) .refusal) (ss)) (received ar d tb ss (fit₂ .1)) (is₁))))
+            by ! (exits (mdOutcomeOf ((mdStep (mdTelegram (ar) (d)) (unpacked (tb))) .answer)) (octetsAfter (mdTelegram (ar) (d)) (tb)) (added (Md) ((mdOutcomeOf ((mdStep (mdTelegram (ar) (d)) (unpacked (tb))) .answer)) .refusal) (ss)) (received ar d tb ss (fit₂ .1)) (is₁))))
 
       walk : ent 𝓤 (onEntry 𝓤 H A f.signature ((tb-κ, (ss-κ, (d-κ, tt)))) ((tb-q, (ss-q, (d-q, tt)))) args ((vptr tb-b tb-o ∷ [], (vptr ss-b ss-o ∷ [], (arrivalBy 𝓤 H A W .val ar ∷ [], (sliceVal (d-b, d-o) (length d) ∷ [], tt)))))) (WpFn 𝓤 H (𝓣 .C) (𝓣 .Λ) code.function (vptr tb-b tb-o ∷ vptr ss-b ss-o ∷ arrivalBy 𝓤 H A W .val ar ∷ sliceVal (d-b, d-o) (length d) ∷ []) Post)
       walk =

@@ -14,4 +14,7 @@ returns : tie.Need-returns
 returns c = follows _ _ _ _ (c .before .reply .ensures) _ (c .of-told .ensures)
 
 pub trdp-reply-spec : {M : Type 1} → statement M
-trdp-reply-spec = tie.close (tie.spec reply-requires of-told-requires returns)
+trdp-reply-spec = tie.close (tie.spec
+    reply-requires
+    of-told-requires
+    returns)

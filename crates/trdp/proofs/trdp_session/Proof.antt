@@ -18,4 +18,8 @@ returns-2 : tie.Need-returns-2
 returns-2 c = search (needs, tests)
 
 pub trdp-session-spec : {M : Type 1} → statement M
-trdp-session-spec = tie.close (tie.spec session-at-requires of-session-requires returns returns-2)
+trdp-session-spec = tie.close (tie.spec
+    session-at-requires
+    of-session-requires
+    returns
+    returns-2)

@@ -14,4 +14,7 @@ returns : tie.Need-returns
 returns c = follows _ _ _ _ (c .before .unlisten .ensures) _ (c .of-told .ensures)
 
 pub trdp-unlisten-spec : {M : Type 1} → statement M
-trdp-unlisten-spec = tie.close (tie.spec unlisten-requires of-told-requires returns)
+trdp-unlisten-spec = tie.close (tie.spec
+    unlisten-requires
+    of-told-requires
+    returns)
