@@ -21,7 +21,7 @@ ghost use Rattle.subscription_decisions.specs.declared.Reading.the-variants as 
 ghost use Rattle.boundary.specs.Subscriptions.{outcomeOf, stateNumber, ofReading, isShown};
 ghost use Rattle.session_table.specs.Calls as session;
 ghost use Rattle.boundary.specs.Sessions as sessions;
-ghost use Rattle.boundary.specs.Wire.{noCommon, noPdHeader, noMdHeader, noMdDatagram, ofWritten, ofConverted, ofPdTaken, ofSent};
+ghost use Rattle.boundary.specs.Wire.{granted, refused, noCommon, noPdHeader, noMdHeader, noMdDatagram, ofWritten, ofConverted, ofPdTaken, ofSent};
 
 // What a call answers: a slot, a count or a length; 0 where it is refused or has nothing to say.
 #[repr(C)]
@@ -93,6 +93,26 @@ pub struct SessionSeen {
     pub timeout: u32,
 }
 
+// What was granted.
+fn granted(value: usize) -> Outcome
+    ensures { λ r. ⌜ r ≡ granted value ⌝ }
+{
+    Outcome {
+        refusal: 0,
+        value: value,
+    }
+}
+
+// The refusal with its number.
+fn refused(number: u8) -> Outcome
+    ensures { λ r. ⌜ r ≡ refused number ⌝ }
+{
+    Outcome {
+        refusal: number,
+        value: 0,
+    }
+}
+
 // The fields of a header that was not taken apart.
 pub fn no_common() -> Common
     ensures { λ r. ⌜ r ≡ noCommon ⌝ }
@@ -141,14 +161,8 @@ pub fn of_written(w: Written) -> Outcome
     ensures { λ r. ⌜ r ≡ ofWritten w ⌝ }
 {
     match w {
-        Written::Octets(n) => Outcome {
-            refusal: 0,
-            value: n,
-        },
-        Written::Refused(n) => Outcome {
-            refusal: n,
-            value: 0,
-        },
+        Written::Octets(n) => granted(n),
+        Written::Refused(n) => refused(n),
     }
 }
 
@@ -195,14 +209,8 @@ pub fn of_converted(c: Converted) -> Outcome
     ensures { λ r. ⌜ r ≡ ofConverted c ⌝ }
 {
     match c {
-        Converted::Octets(n) => Outcome {
-            refusal: 0,
-            value: n,
-        },
-        Converted::Refused(n) => Outcome {
-            refusal: n,
-            value: 0,
-        },
+        Converted::Octets(n) => granted(n),
+        Converted::Refused(n) => refused(n),
     }
 }
 
@@ -211,26 +219,11 @@ pub fn of_answer(a: Answer) -> Outcome
     ensures { λ r. ⌜ r ≡ outcomeOf (meaning a) ⌝ }
 {
     match a {
-        Answer::Granted(k) => Outcome {
-            refusal: 0,
-            value: k,
-        },
-        Answer::Freed => Outcome {
-            refusal: 0,
-            value: 0,
-        },
-        Answer::Delivered(n) => Outcome {
-            refusal: 0,
-            value: n,
-        },
-        Answer::Marked(n) => Outcome {
-            refusal: 0,
-            value: n,
-        },
-        Answer::Refused(n) => Outcome {
-            refusal: n,
-            value: 0,
-        },
+        Answer::Granted(k) => granted(k),
+        Answer::Freed => granted(0),
+        Answer::Delivered(n) => granted(n),
+        Answer::Marked(n) => granted(n),
+        Answer::Refused(n) => refused(n),
     }
 }
 
@@ -292,42 +285,15 @@ pub fn of_told(a: session_table::Answer) -> Outcome
     ensures { λ r. ⌜ r ≡ sessions.outcomeOf (session.meaning a) ⌝ }
 {
     match a {
-        session_table::Answer::Listening(k) => Outcome {
-            refusal: 0,
-            value: k,
-        },
-        session_table::Answer::Freed => Outcome {
-            refusal: 0,
-            value: 0,
-        },
-        session_table::Answer::Opened(k) => Outcome {
-            refusal: 0,
-            value: k,
-        },
-        session_table::Answer::Notified(l) => Outcome {
-            refusal: 0,
-            value: l,
-        },
-        session_table::Answer::Requested(_, k) => Outcome {
-            refusal: 0,
-            value: k,
-        },
-        session_table::Answer::Taken(_, k) => Outcome {
-            refusal: 0,
-            value: k,
-        },
-        session_table::Answer::Replied => Outcome {
-            refusal: 0,
-            value: 0,
-        },
-        session_table::Answer::Confirmed => Outcome {
-            refusal: 0,
-            value: 0,
-        },
-        session_table::Answer::Refused(n, _) => Outcome {
-            refusal: n,
-            value: 0,
-        },
+        session_table::Answer::Listening(k) => granted(k),
+        session_table::Answer::Freed => granted(0),
+        session_table::Answer::Opened(k) => granted(k),
+        session_table::Answer::Notified(l) => granted(l),
+        session_table::Answer::Requested(_, k) => granted(k),
+        session_table::Answer::Taken(_, k) => granted(k),
+        session_table::Answer::Replied => granted(0),
+        session_table::Answer::Confirmed => granted(0),
+        session_table::Answer::Refused(n, _) => refused(n),
     }
 }
 
