@@ -109,8 +109,8 @@ fn check(tables: &mut [u8; 1280], s: &[u8], out: &mut [u8], at: usize) -> usize
 }
 
 // `session K`
-fn session(tables: &mut [u8; 1280], s: &[u8], out: &mut [u8], at: usize) -> usize
-    ensures { λ r. ⌜ Serves (sessionAsked (now (s .entry))) (now (tables .entry)) at (now (out .entry)) r (now (tables .exit)) (now (out .exit)) ⌝ }
+fn session(tables: &[u8; 1280], s: &[u8], out: &mut [u8], at: usize) -> usize
+    ensures { λ r. ⌜ Serves (sessionAsked (now (s .entry))) (now (tables .entry)) at (now (out .entry)) r (now (tables .entry)) (now (out .exit)) ⌝ }
 {
     let k = line::number(s, line::behind(7), 8);
     if line::is_end(s, k) {

@@ -36,12 +36,12 @@ same-length c = search needs
 returns : tie.Need-returns
 unfolding sessionAsked
 returns c =
-    let s = c .before .before .before .before .before .before .before .before .before .before .before .before .before .before .args .s .now in
-    let f1 = c .before .before .before .before .before .before .before .before .before .before .number in
-    let e : ends s (f1 .result) ≡ true = sym (c .before .before .before .before .before .before .before .before .before .is-end .ensures) ∙ c .before .before .before .before .before .before .before .before .if1 .taken in
-    asks (shown (c .before .before .before .before .before .before .before .word .result) (c .before .before .before .before .session-at .result) (c .before .before .before .before .session-at .ensures) (c .before .before .put-slot .ensures))
-    (first-number s (c .before .before .before .before .before .before .before .before .before .before .before .behind .result) (readTo 0 7) (f1 .result) 8 _ (c .before .before .before .before .before .before .before .before .before .before .before .behind .ensures) (f1 .ensures)
-    (ended s (f1 .result) _ e (same-look (c .before .before .before .before .before .before .before .word .ensures))))
+    let s = c .before .before .before .before .before .before .before .before .before .before .before .before .before .args .s .now in
+    let f1 = c .before .before .before .before .before .before .before .before .before .number in
+    let e : ends s (f1 .result) ≡ true = sym (c .before .before .before .before .before .before .before .before .is-end .ensures) ∙ c .before .before .before .before .before .before .before .if1 .taken in
+    asks (shown (c .before .before .before .before .before .before .word .result) (c .before .before .before .before .session-at .result) (c .before .before .before .before .session-at .ensures) (c .before .before .put-slot .ensures))
+    (first-number s (c .before .before .before .before .before .before .before .before .before .before .behind .result) (readTo 0 7) (f1 .result) 8 _ (c .before .before .before .before .before .before .before .before .before .before .behind .ensures) (f1 .ensures)
+    (ended s (f1 .result) _ e (same-look (c .before .before .before .before .before .before .word .ensures))))
 
 returns-2 : tie.Need-returns-2
 unfolding sessionAsked
