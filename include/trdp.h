@@ -6,8 +6,8 @@
    arriving telegram).
 
    What the caller owes: a pointer leads to as many items as the length beside it says, and is not null even where that is 0;
-   memory that a call may write overlaps no other that it is lent; a bool holds 0 or 1. Addresses and numbers are in the host's
-   byte order; times are microseconds of one clock. */
+   memory that a call may write overlaps no other that it is lent. Addresses and numbers are in the host's byte order; times are
+   microseconds of one clock. Every value of every field that a host lends has a meaning. */
 #ifndef TRDP_H
 #define TRDP_H
 
@@ -147,16 +147,16 @@ typedef struct trdp_filter {
     uint32_t destination; /* 0: any */
 } trdp_filter;
 
-/* The sender and counter last taken; held is false where nothing was taken since subscribing or since a timeout. */
+/* The sender and counter last taken. */
 typedef struct trdp_last_taken {
-    bool held;
+    uint8_t held; /* 0: nothing was taken since subscribing or since a timeout */
     uint32_t sender;
     uint32_t counter;
 } trdp_last_taken;
 
 /* A slot of the subscription table. */
 typedef struct trdp_subscription {
-    bool used;
+    uint8_t used;      /* 0: free, any other: in use */
     trdp_filter filter;
     trdp_timing timing;
     uint8_t behaviour; /* enum trdp_behaviour; any other: substitute */
@@ -181,7 +181,7 @@ typedef struct trdp_statistics {
 typedef struct trdp_publication {
     trdp_pd_header header;
     uint32_t cycle;
-    bool sent;
+    uint8_t sent; /* 0: nothing was sent yet */
     uint64_t last_sent;
 } trdp_publication;
 

@@ -75,7 +75,7 @@ pub struct Filter {
 #[derive(Clone, Copy, Debug, PartialEq, Eq)]
 #[repr(C)]
 pub struct LastTaken {
-    pub held: bool,
+    pub held: u8,
     pub sender: u32,
     pub counter: u32,
 }
@@ -83,7 +83,7 @@ pub struct LastTaken {
 #[derive(Clone, Copy, Debug, PartialEq, Eq)]
 #[repr(C)]
 pub struct Subscription {
-    pub used: bool,
+    pub used: u8,
     pub filter: Filter,
     pub timing: Timing,
     pub behaviour: u8,
@@ -114,7 +114,7 @@ pub struct Statistics {
 pub struct Publication {
     pub header: PdHeader,
     pub cycle: u32,
-    pub sent: bool,
+    pub sent: u8,
     pub last_sent: u64,
 }
 

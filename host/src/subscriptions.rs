@@ -177,7 +177,7 @@ impl Subscriptions {
 #[cfg(test)]
 mod tests {
     use super::*;
-    use crate::raw::{Common, PdHeader};
+    use crate::raw::{Common, LastTaken, PdHeader, SenderRange, Timing};
     use crate::{msg_type, PD_HEADER};
 
     fn telegram(com_id: u32, counter: u32, dataset: &[u8]) -> Vec<u8> {
@@ -224,5 +224,35 @@ mod tests {
         assert_eq!(lent.receive(&mut statistics, Arrival::default(), &[]), Err(Refusal::LentSizes));
         assert_eq!(statistics, Statistics::default());
         assert_eq!(lent.read(0, b""), Err(Refusal::LentSizes));
+    }
+
+    /// A record that nobody wrote: every value of every field has a meaning.
+    #[test]
+    fn a_damaged_table_is_read() {
+        for octet in [1, 2, 0x80, 0xFF] {
+            let filter = Filter { com_id: 5, senders: SenderRange { start: 0, end: u32::MAX }, destination: 0 };
+            let damaged = Subscription {
+                used: octet,
+                filter,
+                timing: Timing { start: u64::MAX, timeout: u32::MAX },
+                behaviour: 0xFF,
+                state: 0xFF,
+                last: LastTaken { held: octet, sender: 1, counter: u32::MAX },
+                length: u32::MAX,
+            };
+            let mut table = Subscriptions::new(1);
+            table.slots[0] = damaged;
+            let mut statistics = Statistics::default();
+            let arrival = Arrival { sender: 1, ..Arrival::default() };
+            assert_eq!(table.subscribe(filter, 0, Behaviour::Keep, 0), Err(Refusal::FilterInUse));
+            assert_eq!(table.subscribe(Filter::default(), 0, Behaviour::Keep, 0), Err(Refusal::NoFreeSlot));
+            assert_eq!(table.read(0, b""), Err(Refusal::LentSizes));
+            assert_eq!(table.check(u64::MAX), Ok(0));
+            assert_eq!(table.receive(&mut statistics, arrival, &telegram(5, u32::MAX, b"shut")), Err(Refusal::Stale));
+            assert_eq!(table.receive(&mut statistics, arrival, &telegram(5, 0, b"open")), Ok(1));
+            assert_eq!(table.read(0, b""), Ok((State::Valid, &b"open"[..])));
+            assert_eq!(table.unsubscribe(0), Ok(()));
+            assert_eq!(table.slots()[0], Subscription::default());
+        }
     }
 }

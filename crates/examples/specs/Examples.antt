@@ -42,7 +42,7 @@ answerOf (topography e o le lo) =
 answerOf (freshAfter last counter) =
     holds
     (fresh
-    (record { held = true; sender = 0; counter = last })
+    (record { held = 1; sender = 0; counter = last })
     (record { «com_id» = 0; sender = 0; destination = 0; counter = counter; time = 0 }))
 answerOf (dataset1001 form s) = walks (wholeOf form run1001 1001 s)
 

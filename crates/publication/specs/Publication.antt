@@ -2,7 +2,8 @@
 use Prim.Native.Nat.{ℕ, _+_, _%_, _^_}
 use mathlib.Core.Path.{_≡_}
 use mathlib.Core.List.{List, _∷_}
-use mathlib.Core.Bool.{Bool, true, false, not, _||_}
+use mathlib.Core.Bool.{Bool, not, _||_}
+use lib.Dec.{eqb}
 use lib.ListN.{length}
 use Rattle.refusal.specs.Refusal.{Check, _when_, after, notDue}
 use Rattle.timing.specs.Timing.{passed}
@@ -35,11 +36,11 @@ counted h n =
 
 -- next counter first 0, nothing sent
 abbrev pub madeOf : PdHeader → ℕ → Publication
-madeOf h cycle = record { header = counted h 0; cycle = cycle; sent = false; «last_sent» = 0 }
+madeOf h cycle = record { header = counted h 0; cycle = cycle; sent = 0; «last_sent» = 0 }
 
 -- the first is due at once, later ones when now is not before the last and at least a cycle after
 abbrev pub due : Publication → ℕ → Bool
-due p time = not (p .sent) || passed (p .«last_sent») (p .cycle) time
+due p time = eqb (p .sent) 0 || passed (p .«last_sent») (p .cycle) time
 
 -- 14, then the writer's
 abbrev pub sendChecks : Publication → ℕ → ℕ → ℕ → List Check
@@ -55,7 +56,7 @@ sentAt p time =
     record {
       header = counted (p .header) (nextCounter (p .header .common .«sequence_counter»));
       cycle = p .cycle;
-      sent = true;
+      sent = 1;
       «last_sent» = time;
     }
 

@@ -9,12 +9,12 @@ ghost use lib.ListN.{length};
 ghost use Rattle.refusal.specs.Refusal.{firstOf};
 ghost use Rattle.publication.specs.Publication.{counted, madeOf, due, sendChecks, nextCounter, Sends};
 
-// A publication: its header, whose sequence counter is the next one, its cycle, and its last sending.
+// A publication: its header, whose sequence counter is the next one, its cycle, and its last sending. Sent: 0 where nothing was sent.
 #[repr(C)]
 pub struct Publication {
     pub header: PdHeader,
     pub cycle: u32,
-    pub sent: bool,
+    pub sent: u8,
     pub last_sent: u64,
 }
 
@@ -44,7 +44,7 @@ pub fn publish(header: PdHeader, cycle: u32) -> Publication
     Publication {
         header: count(header, 0),
         cycle: cycle,
-        sent: false,
+        sent: 0,
         last_sent: 0,
     }
 }
@@ -53,7 +53,7 @@ pub fn publish(header: PdHeader, cycle: u32) -> Publication
 pub fn is_due(p: Publication, time: u64) -> bool
     ensures { λ r. ⌜ r ≡ due p time ⌝ }
 {
-    if p.sent {
+    if p.sent != 0 {
         return timing::has_passed(p.last_sent, p.cycle, time);
     }
     true
@@ -82,7 +82,7 @@ pub fn send(p: Publication, time: u64, dataset: &[u8], target: &mut [u8]) -> Sen
         let after = Publication {
             header: count(h, next(counter)),
             cycle: p.cycle,
-            sent: true,
+            sent: 1,
             last_sent: time,
         };
         return Sent {

@@ -10,7 +10,7 @@ use lib.Dec.{ltb, leb}
 use lib.ListN.{length, getD, set, replicate}
 use Rattle.octets.specs.Octets.{put}
 use Rattle.topography.specs.declared.TopoCounts.{TopoCounts}
-use Rattle.subscription.specs.Record.{freeRecord}
+use Rattle.subscription.specs.Record.{inUse, freeRecord}
 use Rattle.subscription_table.specs.Table.{Call}
 use Rattle.line.specs.declared.Field.{Field}
 use Rattle.answer.specs.Answer.{Room, room, putPiece, putAll, Puts, Answers, ascii, word, refused}
@@ -165,7 +165,7 @@ module _ (st : List ℕ) where
       let n = numberField s k 8 in
       let r = getD (t .records) (eight k) freeRecord in
       either-kept (ends s n)
-      (either-kept (ltb (eight k) 32 && r .used)
+      (either-kept (ltb (eight k) 32 && inUse r)
       (same (some (word "ok")) (pd.withRecords (set (t .records) (eight k) (pdLines.withLength (eight n) r)) t))
       (same (some (refused 10)) t))
       (same none t)

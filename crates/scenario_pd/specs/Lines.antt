@@ -14,7 +14,7 @@ use Rattle.line.specs.Line.{readTo, verbIs, ends, withEnd, withOctets, withNumb
 use Rattle.answer.specs.Answer.{ascii, word, refused}
 use Rattle.subscription.specs.declared.Subscription.{Subscription}
 use Rattle.subscription.specs.declared.Filter.{Filter}
-use Rattle.subscription.specs.Record.{freeRecord}
+use Rattle.subscription.specs.Record.{inUse, freeRecord}
 use Rattle.subscription_table.specs.Table.{Call, subscribe, unsubscribe, telegram, timeCheck}
 use Rattle.scenario_pd_look.specs.declared.Slots.{Slots}
 use Rattle.scenario_pd.specs.Effect.{Effect, withRecords, saying, calling, counting, Turns}
@@ -93,7 +93,7 @@ withLength n r =
 -- `ok`: the record of a slot in use (below 32) says this stored length; else `refused 10`
 abbrev pub damaged : ℕ → ℕ → Slots → List ℕ → Effect
 damaged k n t store =
-    cond (ltb k 32 && getD (t .records) k freeRecord .used)
+    cond (ltb k 32 && inUse (getD (t .records) k freeRecord))
     (record { words = some (word "ok"); slots = withRecords (set (t .records) k (withLength n (getD (t .records) k freeRecord))) t; store = store })
     (saying (some (refused 10)) t store)
 

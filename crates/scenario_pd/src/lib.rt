@@ -220,7 +220,7 @@ fn lengthen(t: Slots, k: usize, n: u32, out: &mut [u8], at: usize) -> Turned
     if k < 32 {
         let mut records = t.records;
         let mut r = records[k];
-        if r.used {
+        if r.used != 0 {
             r.length = n;
             records[k] = r;
             let mut after = t;

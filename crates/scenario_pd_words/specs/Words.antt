@@ -7,7 +7,7 @@ use Rattle.subscription.specs.declared.State.{State}
 use Rattle.subscription.specs.declared.State.the-variants.{NeverReceived, Valid, TimedOut}
 use Rattle.subscription.specs.declared.LastTaken.{LastTaken}
 use Rattle.subscription.specs.declared.Subscription.{Subscription}
-use Rattle.subscription.specs.Record.{stateOf}
+use Rattle.subscription.specs.Record.{remembers, inUse, stateOf}
 use Rattle.subscription_table.specs.Table.{Answer, granted, freed, delivered, marked, shows, refused}
 
 -- `valid`, `timedout` or `never`
@@ -37,12 +37,12 @@ grantedWords r =
 
 -- SENDER COUNTER, those last taken; `- -` where no counter is held
 abbrev pub lastWords : LastTaken → List (List ℕ)
-lastWords l = cond (l .held) (number 8 (l .sender) ++ number 8 (l .counter)) (word "- -")
+lastWords l = cond (remembers l) (number 8 (l .sender) ++ number 8 (l .counter)) (word "- -")
 
 -- `used COMID START END DEST TIMEOUT BEHAVIOUR STATE SENDER COUNTER STARTED LENGTH`, or `free`
 abbrev pub recordWords : Subscription → List (List ℕ)
 recordWords r =
-    cond (r .used)
+    cond (inUse r)
     (word "used"
     ++ grantedWords r
     ++ stateWords (stateOf (r .state))

@@ -47,7 +47,7 @@ fn put_granted(out: &mut [u8], at: usize, r: Subscription) -> usize
 fn put_last(out: &mut [u8], at: usize, l: LastTaken) -> usize
     ensures { λ q. ⌜ Puts (lastWords l) at (now (out .entry)) q (now (out .exit)) ⌝ }
 {
-    if l.held {
+    if l.held != 0 {
         let p = answer::number8(out, at, l.sender);
         return answer::number8(out, p, l.counter);
     }
@@ -58,7 +58,7 @@ fn put_last(out: &mut [u8], at: usize, l: LastTaken) -> usize
 pub fn put_record(out: &mut [u8], at: usize, r: Subscription) -> usize
     ensures { λ q. ⌜ Puts (recordWords r) at (now (out .entry)) q (now (out .exit)) ⌝ }
 {
-    if r.used {
+    if r.used != 0 {
         let last = r.last;
         let p = answer::word(out, at, b"used");
         let p = put_granted(out, p, r);

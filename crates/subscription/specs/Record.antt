@@ -28,7 +28,7 @@ equal f g = eqb (f .«com_id») (g .«com_id») && same (f .senders) (g .senders
 
 -- nothing taken since subscribing or since a timeout
 abbrev pub forgotten : LastTaken
-forgotten = record { held = false; sender = 0; counter = 0 }
+forgotten = record { held = 0; sender = 0; counter = 0 }
 
 -- a timeout forgets
 abbrev pub forget : LastTaken → LastTaken
@@ -36,7 +36,11 @@ forget l = forgotten
 
 -- the sender and the counter are taken
 abbrev pub remembered : Heard → LastTaken
-remembered h = record { held = true; sender = h .sender; counter = h .counter }
+remembered h = record { held = 1; sender = h .sender; counter = h .counter }
+
+-- something was taken: any number but 0
+abbrev pub remembers : LastTaken → Bool
+remembers l = not (eqb (l .held) 0)
 
 -- a counter minus the last one, modulo 2^32
 abbrev pub ahead : ℕ → ℕ → ℕ
@@ -45,7 +49,7 @@ ahead last counter = (counter + 2 ^ 32 - last) % 2 ^ 32
 -- fresh if nothing was taken, if the sender is another, or if the counter is 1 to 2^31 - 1 ahead
 unfoldable pub fresh : LastTaken → Heard → Bool
 fresh l h =
-    not (l .held)
+    not (remembers l)
     || not (eqb (l .sender) (h .sender))
     || (leb 1 (ahead (l .counter) (h .counter)) && leb (ahead (l .counter) (h .counter)) (2 ^ 31 - 1))
 
@@ -53,7 +57,7 @@ fresh l h =
 abbrev pub freeRecord : Subscription
 freeRecord =
     record {
-      used = false;
+      used = 0;
       filter = record { «com_id» = 0; senders = record { start = 0; end = 0 }; destination = 0 };
       timing = record { start = 0; timeout = 0 };
       behaviour = 0;
@@ -66,7 +70,7 @@ freeRecord =
 abbrev pub grantedRecord : Filter → ℕ → ℕ → ℕ → Subscription
 grantedRecord f timeout behaviour time =
     record {
-      used = true;
+      used = 1;
       filter = f;
       timing = record { start = time; timeout = timeout };
       behaviour = behaviour;
@@ -75,9 +79,13 @@ grantedRecord f timeout behaviour time =
       length = 0;
     }
 
+-- in use: any number but 0
+abbrev pub inUse : Subscription → Bool
+inUse r = not (eqb (r .used) 0)
+
 -- a slot in use whose filter matches
 abbrev pub recordWants : Heard → Subscription → Bool
-recordWants h r = r .used && matches (r .filter) h
+recordWants h r = inUse r && matches (r .filter) h
 
 -- a slot that takes: it is fresh there
 abbrev pub recordTakes : Heard → Subscription → Bool
@@ -104,7 +112,7 @@ stateOf (suc (suc n)) = TimedOut
 
 -- in use, with a timeout, not yet marked, and the time is up
 abbrev pub recordDue : ℕ → Subscription → Bool
-recordDue time r = r .used && (not (ltb 1 (r .state)) && timeUp (r .timing) time)
+recordDue time r = inUse r && (not (ltb 1 (r .state)) && timeUp (r .timing) time)
 
 -- marking forgets the counter; stored length and start stay
 abbrev pub recordMarked : Subscription → Subscription

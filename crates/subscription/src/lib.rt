@@ -12,19 +12,19 @@ pub struct Filter {
     pub destination: u32,
 }
 
-// The sender and counter last taken; held is false where nothing was taken since subscribing or since a timeout.
+// The sender and counter last taken. Held: 0 where nothing was taken since subscribing or since a timeout.
 #[repr(C)]
 pub struct LastTaken {
-    pub held: bool,
+    pub held: u8,
     pub sender: u32,
     pub counter: u32,
 }
 
-// A slot of the subscription table. Behaviour: 0 zero, 1 keep, any other substitute. State: 0 never received, 1 valid, any
-// other timed out.
+// A slot of the subscription table. Used: 0 free, any other in use. Behaviour: 0 zero, 1 keep, any other substitute. State: 0 never
+// received, 1 valid, any other timed out.
 #[repr(C)]
 pub struct Subscription {
-    pub used: bool,
+    pub used: u8,
     pub filter: Filter,
     pub timing: Timing,
     pub behaviour: u8,
@@ -89,7 +89,7 @@ impl LastTaken {
         ensures { λ r. ⌜ r ≡ forgotten ⌝ }
     {
         Self {
-            held: false,
+            held: 0,
             sender: 0,
             counter: 0,
         }
@@ -107,7 +107,7 @@ impl LastTaken {
         ensures { λ r. ⌜ r ≡ remembered h ⌝ }
     {
         Self {
-            held: true,
+            held: 1,
             sender: h.sender,
             counter: h.counter,
         }
@@ -117,7 +117,7 @@ impl LastTaken {
     pub fn is_fresh(self, h: Heard) -> bool
         ensures { λ r. ⌜ r ≡ fresh self h ⌝ }
     {
-        if self.held {
+        if self.held != 0 {
             if self.sender == h.sender {
                 let ahead = std::num::wrapping_sub_u32(h.counter, self.counter);
                 if ahead < 1 {
@@ -135,7 +135,7 @@ pub fn free() -> Subscription
     ensures { λ r. ⌜ r ≡ freeRecord ⌝ }
 {
     Subscription {
-        used: false,
+        used: 0,
         filter: Filter {
             com_id: 0,
             senders: SenderRange { start: 0, end: 0 },
@@ -157,7 +157,7 @@ pub fn subscribe(f: Filter, timeout: u32, behaviour: u8, time: u64) -> Subscript
     ensures { λ r. ⌜ r ≡ grantedRecord f timeout behaviour time ⌝ }
 {
     Subscription {
-        used: true,
+        used: 1,
         filter: f,
         timing: Timing {
             start: time,
@@ -176,7 +176,7 @@ pub fn is_wanted(r: Subscription, h: Heard) -> bool
 {
     let f = r.filter;
     if is_match(f, h) {
-        return r.used;
+        return r.used != 0;
     }
     false
 }
@@ -216,7 +216,7 @@ pub fn take(r: Subscription, h: Heard, n: u32) -> Subscription
 pub fn is_due(r: Subscription, time: u64) -> bool
     ensures { λ b. ⌜ b ≡ recordDue time r ⌝ }
 {
-    if r.used {
+    if r.used != 0 {
         if 1 < r.state {
             return false;
         }

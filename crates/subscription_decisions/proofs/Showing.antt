@@ -15,6 +15,7 @@ use Rattle.subscription_table.specs.Table.{fits}
 use Rattle.subscription.specs.declared.Subscription.{Subscription}
 use Rattle.subscription_table.proofs.Lent.{fits-means}
 use Rattle.subscription_step.specs.Step.{storedAt, shownAt}
+use Rattle.subscription.specs.Record.{inUse}
 use Rattle.subscription_decisions.specs.declared.View.{View}
 use Rattle.subscription_decisions.specs.declared.Reading.{Reading}
 use Rattle.subscription_decisions.specs.declared.Reading.the-variants.{Shows, Refused}
@@ -46,9 +47,9 @@ showing (Refused r) = false
 -- what a record shows is what reading it answers
 pub record-shows : (n k : ℕ) (r : Subscription) (set st : List ℕ) (v : View) → readBy (fits n (length st)) r ≡ Shows v → shownAt r k st set ≡ octetsOf (shown k set st (readBy (fits n (length st)) r))
 unfolding showing
-record-shows n k r set st v e = go (fits n (length st)) (r .used) (ltb slotOctets (r .length)) refl refl refl
+record-shows n k r set st v e = go (fits n (length st)) (inUse r) (ltb slotOctets (r .length)) refl refl refl
   where
-    go : (b u l : Bool) → fits n (length st) ≡ b → r .used ≡ u → ltb slotOctets (r .length) ≡ l → shownAt r k st set ≡ octetsOf (shown k set st (readBy (fits n (length st)) r))
+    go : (b u l : Bool) → fits n (length st) ≡ b → inUse r ≡ u → ltb slotOctets (r .length) ≡ l → shownAt r k st set ≡ octetsOf (shown k set st (readBy (fits n (length st)) r))
     go false u l f g h = absurd (false≢true (ap showing (rw f at e)))
     go true false l f g h = absurd (false≢true (ap showing (rw (f, g) at e)))
     go true true true f g h = absurd (false≢true (ap showing (rw (f, g, h) at e)))

@@ -5,7 +5,7 @@ use mathlib.Core.Bool.{Bool, true, false, cond}
 use lib.Dec.{leb}
 use lib.ListN.{replicate}
 use Rattle.octets.specs.Octets.{put}
-use Rattle.subscription.specs.Record.{freeRecord}
+use Rattle.subscription.specs.Record.{inUse, freeRecord}
 use Rattle.subscription_table.specs.Slot.{slotOctets}
 use Rattle.subscription_table.specs.Table.{fits}
 use Rattle.subscription.specs.declared.Subscription.{Subscription}
@@ -24,7 +24,7 @@ noSlot slots octets = cond (fits slots octets) (Refused 10) (Refused 1)
 
 -- a slot in use is freed; a free one is refused with 10
 abbrev pub releasedOf : Subscription → Released
-releasedOf r = cond (r .used) (record { slot = freeRecord; answer = Freed }) (record { slot = r; answer = Refused 10 })
+releasedOf r = cond (inUse r) (record { slot = freeRecord; answer = Freed }) (record { slot = r; answer = Refused 10 })
 
 -- slot k's part is zeroed
 abbrev pub cleared : ℕ → List ℕ → List ℕ
@@ -32,7 +32,7 @@ cleared k store = put (k * slotOctets) (replicate slotOctets 0) store
 
 -- .. where it is freed
 abbrev pub releasedStore : Subscription → ℕ → List ℕ → List ℕ
-releasedStore r k store = cond (r .used) (cleared k store) store
+releasedStore r k store = cond (inUse r) (cleared k store) store
 
 -- 11, 12 or 13, else the lowest free slot
 abbrev pub decided : Bool → Found → Answer

@@ -4,7 +4,7 @@ use mathlib.Core.List.{List, []}
 use mathlib.Core.Bool.{Bool, cond}
 use lib.Dec.{ltb}
 use Rattle.octets.specs.Octets.{part}
-use Rattle.subscription.specs.Record.{stateOf, substitutes}
+use Rattle.subscription.specs.Record.{inUse, stateOf, substitutes}
 use Rattle.subscription_table.specs.Slot.{slotOctets}
 use Rattle.subscription_table.specs.Table as table
 use Rattle.subscription.specs.declared.Subscription.{Subscription}
@@ -15,7 +15,7 @@ use Rattle.subscription_decisions.specs.declared.Reading.the-variants.{S
 abbrev pub readBy : Bool → Subscription → Reading
 readBy fit r =
     cond fit
-    (cond (r .used)
+    (cond (inUse r)
     (cond (ltb slotOctets (r .length)) (Refused 1) (Shows (record { state = stateOf (r .state); substitute = substitutes r; length = r .length })))
     (Refused 10))
     (Refused 1)

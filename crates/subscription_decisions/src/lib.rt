@@ -183,7 +183,7 @@ pub fn release(r: Subscription, store: &mut [u8], k: usize) -> Released
     requires { ⌜ k * 1432 + 1432 ≤ length (now store) ⌝ }
     ensures { λ s. ⌜ (s ≡ releasedOf r) × (now (store .exit) ≡ releasedStore r k (now (store .entry))) ⌝ }
 {
-    if r.used {
+    if r.used != 0 {
         octets::clear_part(store, k * 1432, 1432);
         return Released {
             slot: subscription::free(),
@@ -211,7 +211,7 @@ pub fn nothing() -> Found
 pub fn look(c: Found, r: Subscription, f: Filter, i: usize) -> Found
     ensures { λ q. ⌜ q ≡ looked f i r c ⌝ }
 {
-    if r.used {
+    if r.used != 0 {
         let g = r.filter;
         if subscription::are_equal(f, g) {
             return Found {
@@ -380,7 +380,7 @@ pub fn read_record(slots: usize, octets: usize, r: Subscription) -> Reading
     ensures { λ q. ⌜ q ≡ readBy (fits slots octets) r ⌝ }
 {
     if is_fit(slots, octets) {
-        if r.used {
+        if r.used != 0 {
             if 1432 < r.length {
                 return Reading::Refused(refusal::SIZES);
             }

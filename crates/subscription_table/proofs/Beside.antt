@@ -8,7 +8,7 @@ use mathlib.Core.Option.{Option, none, some}
 use Prim.Native.Nat.{ℕ, zero, suc, _*_, _≤_}
 use native.Mathlib.Nat.{zero-mul, suc-mul, add-comm}
 use lib.ListN.{length, set, replicate, length-set, length-map, length-replicate, replicate-append-replicate}
-use Rattle.subscription.specs.Record.{unsound}
+use Rattle.subscription.specs.Record.{inUse, unsound}
 use Rattle.arrival.specs.declared.Arrival.{Arrival}
 use Rattle.subscription.specs.declared.Heard.{Heard}
 use Rattle.tables.specs.Lists.{any, lowest, grant, atSlot}
@@ -85,7 +85,7 @@ unfolding slots beside
 slots-are (subscribe q time) ss =
     rw (
       any-map cellOf (holds q) (grantedSame q) (same-is q) ss,
-      lowest-map cellOf (λ x. not (x .slot .used)) isFree free-is ss,
+      lowest-map cellOf (λ x. not (inUse (x .slot))) isFree free-is ss,
     )
     (grant-map cellOf (early (unsound (q .filter)) (any (grantedSame q) ss)) (lowest isFree ss) (refused 13) granted (held q time []) ss)
 slots-are (unsubscribe k) ss =

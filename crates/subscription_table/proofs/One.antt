@@ -12,7 +12,7 @@ use Rattle.tables.specs.Lists.{atSlot}
 use Rattle.subscription_table.specs.Slot.{Judged, refusal, passed, judged, Request, Cell, slotOctets, freeCell, grantedCell, wants, takes, deliver, due, mark}
 use Rattle.subscription_table.specs.Table.{Call, arriving, holds, slots, lent, lentAfter, step}
 use Rattle.subscription_table.specs.Alone.{Fed, arrived, checked, asked, own, Slot, free, held, alone, only, isFree, grantedSame, reached}
-use Rattle.subscription.specs.Record.{zeroes}
+use Rattle.subscription.specs.Record.{inUse, zeroes}
 use Rattle.subscription_table.proofs.Lent.{step-lent}
 use Rattle.subscription_table.proofs.Fitting.{judged-fits}
 
@@ -36,7 +36,7 @@ cellOf (held q time fs) = after q time fs
 -- ---- what a slot keeps from its grant on
 
 pub record Kept (g : Filter) (x : Cell) : Type 0 where
-  pub used : x .slot .used ≡ true
+  pub used : inUse (x .slot) ≡ true
   pub filter : x .slot .filter ≡ g
   pub sized : length (x .octets) ≡ slotOctets
 
@@ -70,7 +70,7 @@ sized (held q time fs) = (kept q time fs) .sized
 
 -- ---- what the table sees of a slot is what its grant says
 
-pub free-is : (s : Slot) → not ((cellOf s) .slot .used) ≡ isFree s
+pub free-is : (s : Slot) → not (inUse ((cellOf s) .slot)) ≡ isFree s
 free-is free = refl
 free-is (held q time fs) = rw ((kept q time fs) .used) refl
 

@@ -11,7 +11,7 @@ use lib.ListN.{length, getD, set}
 use lib.Seq.{set-getD}
 use Rattle.tables.specs.Trace.{Outcome}
 use Rattle.tables.specs.Lists.{any, count, lowest, grant, atSlot}
-use Rattle.subscription.specs.Record.{unsound}
+use Rattle.subscription.specs.Record.{inUse, unsound}
 use Rattle.subscription_table.specs.Slot.{Judged, refusal, passed, judged, Cell, freeCell, grantedCell, wants, takes, taken}
 use Rattle.subscription_table.specs.Table.{Call, subscribe, unsubscribe, telegram, timeCheck, read, Answer, granted, freed, delivered, marked, shows, refused, early, deliveredTo, unsubscribed, arriving, holds, slots, Table, parts, lentAfter, fits, step}
 use Rattle.subscription_table.proofs.Lent.{fits-means}
@@ -53,7 +53,7 @@ grant-refused none (some k) x xs n e = never (granted k) n refuses refl refl e
 
 unsubscribed-refused : (x : Cell) (n : ℕ) → (unsubscribed x) .answer ≡ refused n → (unsubscribed x) .after ≡ x
 unsubscribed-refused x n =
-    chosen (x .slot .used) (record { answer = freed; after = freeCell }) (record { answer = refused 10; after = x }) x n (λ u e. never freed n refuses refl refl e) refl
+    chosen (inUse (x .slot)) (record { answer = freed; after = freeCell }) (record { answer = refused 10; after = x }) x n (λ u e. never freed n refuses refl refl e) refl
 
 arriving-refused : (j : Judged) (xs : List Cell) (n : ℕ) → (arriving j xs) .answer ≡ refused n → (arriving j xs) .after ≡ xs
 arriving-refused (refusal r) xs n e = refl
@@ -67,7 +67,7 @@ arriving-refused (passed h dataset) xs n e = unchanged (takes h) (taken h datase
 slots-refused : (c : Call) (xs : List Cell) (n : ℕ) → (slots c xs) .answer ≡ refused n → (slots c xs) .after ≡ xs
 unfolding slots atSlot
 slots-refused (subscribe q time) xs n e =
-    grant-refused (early (unsound (q .filter)) (any (holds q) xs)) (lowest (λ x. not (x .slot .used)) xs) (grantedCell q time) xs n e
+    grant-refused (early (unsound (q .filter)) (any (holds q) xs)) (lowest (λ x. not (inUse (x .slot))) xs) (grantedCell q time) xs n e
 slots-refused (unsubscribe k) xs n e = ap (set xs k) (unsubscribed-refused (getD xs k freeCell) n e) ∙ set-getD xs k freeCell
 slots-refused (telegram a d) xs n e = arriving-refused (judged a d) xs n e
 slots-refused (timeCheck time) xs n e = never ((slots (timeCheck time) xs) .answer) n refuses refl refl e

@@ -1,5 +1,5 @@
 -- The table of subscriptions and its store, and what each call answers and leaves. Document 01, Subscriptions and Numbers.
-use Rattle.subscription.specs.Record.{equal, unsound, stateOf}
+use Rattle.subscription.specs.Record.{inUse, equal, unsound, stateOf}
 use Rattle.arrival.specs.declared.Arrival.{Arrival}
 use Prim.Native.Nat.{ℕ, zero, suc, _*_}
 use mathlib.Core.Bool.{Bool, true, false, cond, not, _&&_}
@@ -43,21 +43,21 @@ deliveredTo b (suc n) = delivered (suc n)
 -- ---- the calls, over the slots
 
 abbrev pub unsubscribed : Cell → Outcome Answer Cell
-unsubscribed x = cond (x .slot .used) (record { answer = freed; after = freeCell }) (record { answer = refused 10; after = x })
+unsubscribed x = cond (inUse (x .slot)) (record { answer = freed; after = freeCell }) (record { answer = refused 10; after = x })
 
 abbrev pub reading : List ℕ → Cell → Answer
-reading set x = cond (x .slot .used) (cond (overlong x) (refused 1) (shows (stateOf (x .slot .state)) (shown set x))) (refused 10)
+reading set x = cond (inUse (x .slot)) (cond (overlong x) (refused 1) (shows (stateOf (x .slot .state)) (shown set x))) (refused 10)
 
 abbrev pub arriving : Judged → List Cell → Outcome Answer (List Cell)
 arriving (refusal n) xs = record { answer = refused n; after = xs }
 arriving (passed h dataset) xs = record { answer = deliveredTo (any (wants h) xs) (count (takes h) xs); after = map (deliver h dataset) xs }
 
 abbrev pub holds : Request → Cell → Bool
-holds q x = x .slot .used && equal (q .filter) (x .slot .filter)
+holds q x = inUse (x .slot) && equal (q .filter) (x .slot .filter)
 
 unfoldable pub slots : Call → List Cell → Outcome Answer (List Cell)
 slots (subscribe q time) xs =
-    grant (early (unsound (q .filter)) (any (holds q) xs)) (lowest (λ x. not (x .slot .used)) xs) (refused 13) granted (grantedCell q time) xs
+    grant (early (unsound (q .filter)) (any (holds q) xs)) (lowest (λ x. not (inUse (x .slot))) xs) (refused 13) granted (grantedCell q time) xs
 slots (unsubscribe k) xs = atSlot freeCell unsubscribed k xs
 slots (telegram a d) xs = arriving (judged a d) xs
 slots (timeCheck time) xs = record { answer = marked (count (due time) xs); after = map (mark time) xs }

@@ -1,5 +1,5 @@
 -- Demand 3 for one subscription: slot k of the table, and what it is fed.
-use Rattle.subscription.specs.Record.{matches}
+use Rattle.subscription.specs.Record.{inUse, matches}
 use Rattle.arrival.specs.declared.Arrival.{Arrival}
 use Prim.Native.Nat.{ℕ, _*_}
 use mathlib.Core.Bool.{Bool, false, cond, not}
@@ -17,7 +17,7 @@ abbrev pub slotAt : ℕ → Table → Table
 slotAt k t = record { records = getD (t .records) k (freeCell .slot) ∷ []; store = take slotOctets (drop (k * slotOctets) (t .store)) }
 
 abbrev pub unused : Table → Bool
-unused t = not (getD (t .records) 0 (freeCell .slot) .used)
+unused t = not (inUse (getD (t .records) 0 (freeCell .slot)))
 
 abbrev pub gave1 : Answer → Bool
 gave1 (granted k) = false

@@ -10,7 +10,7 @@ use mathlib.Core.Option.{Option, none, some}
 use lib.ListN.{length, drop, set}
 use Rattle.tables.specs.Lists.{any, lowest, next, grant}
 use Rattle.tables.proofs.Lists.{lowest-is}
-use Rattle.subscription.specs.Record.{freeRecord, unsound, grantedRecord}
+use Rattle.subscription.specs.Record.{inUse, freeRecord, unsound, grantedRecord}
 use Rattle.subscription_table.specs.Slot.{Cell, Request, slotOctets, grantedCell}
 use Rattle.subscription_table.specs.Table.{Call, Table, fits, parts, records, store, subscribe, granted, refused, early, holds, lentAfter, slots, step}
 use Rattle.subscription.specs.declared.Filter.{Filter}
@@ -33,7 +33,7 @@ unfolding parts
 any-parts q [] st = refl
 any-parts q (r ∷ rs) st = rw (any-parts q rs (drop slotOctets st)) refl
 
-lowest-parts : (rs : List Subscription) (st : List ℕ) → lowest (λ x. not (x .slot .used)) (parts rs st) ≡ lowest isFree rs
+lowest-parts : (rs : List Subscription) (st : List ℕ) → lowest (λ x. not (inUse (x .slot))) (parts rs st) ≡ lowest isFree rs
 unfolding parts
 lowest-parts [] st = refl
 lowest-parts (r ∷ rs) st = rw (lowest-parts rs (drop slotOctets st)) refl

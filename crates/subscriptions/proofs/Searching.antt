@@ -13,7 +13,7 @@ use lib.ListN.{length, drop, getD}
 use lib.Seq.{drop-cons}
 use borrow.Author.Tests.{ltb-true, ltb-false}
 use Rattle.tables.specs.Lists.{any, lowest, next}
-use Rattle.subscription.specs.Record.{freeRecord, equal}
+use Rattle.subscription.specs.Record.{inUse, freeRecord, equal}
 use Rattle.subscription.specs.declared.Filter.{Filter}
 use Rattle.subscription.specs.declared.Subscription.{Subscription}
 use Rattle.subscription_decisions.specs.declared.Found.{Found}
@@ -58,7 +58,7 @@ from-shows : (f : Filter) (i : ℕ) (rs : List Subscription) (c : Found) → fro
 from-shows f i [] c = ap (λ b. made b (c .free) (c .slot)) (or-false (c .held))
 from-shows f i (r ∷ rs) c =
     from-shows f (suc i) rs (looked f i r c)
-    ∙ one (r .used) (equal f (r .filter)) (c .held) (c .free) (c .slot) i (any (holding f) rs) (lowest isFree rs)
+    ∙ one (inUse r) (equal f (r .filter)) (c .held) (c .free) (c .slot) i (any (holding f) rs) (lowest isFree rs)
 
 at-first : (b : Bool) (o : Option ℕ) → shown noneFound 0 b o ≡ foundOf b o
 at-first b none = refl

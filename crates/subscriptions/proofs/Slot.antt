@@ -13,7 +13,7 @@ use borrow.Author.Tests.{leb-true, leb-false}
 use Rattle.octets.specs.Octets.{put}
 use Rattle.tables.specs.Lists.{atSlot}
 use Rattle.tables.proofs.Arrays.{past}
-use Rattle.subscription.specs.Record.{freeRecord}
+use Rattle.subscription.specs.Record.{inUse, freeRecord}
 use Rattle.subscription_table.specs.Slot.{Cell, slotOctets, freeCell}
 use Rattle.subscription_table.specs.Table.{Table, fits, parts, records, store, unsubscribe, unsubscribed, slots, step}
 use Rattle.subscription.specs.declared.Subscription.{Subscription}
@@ -80,7 +80,7 @@ module _ (rs : List Subscription) (st : List ℕ) (k : ℕ) (f : fits (length rs
   unfolding step slots
   steps = rw f (named-flat unsubscribed rs st k lt (fits-means (length rs) (length st) f .1))
 
-  frees : (b : Bool) → getD rs k freeRecord .used ≡ b
+  frees : (b : Bool) → inUse (getD rs k freeRecord) ≡ b
       → let r = getD rs k freeRecord in
       Follows (unsubscribe k) rs st (meaning (releasedOf r .answer)) (set rs k (releasedOf r .slot)) (releasedStore r k st)
   frees true u = record { answers = rw (steps, u) refl; records-after = rw (steps, u) refl; store-after = rw (steps, u) (zeroed st k) }
@@ -94,5 +94,5 @@ here-follows rs st k e = go (fits (length rs) (length st)) refl e
     go : (b : Bool) → fits (length rs) (length st) ≡ b → cond b (leb (length rs) k) true ≡ false
         → let r = getD rs k freeRecord in
         Follows (unsubscribe k) rs st (meaning (releasedOf r .answer)) (set rs k (releasedOf r .slot)) (releasedStore r k st)
-    go true f h = frees rs st k f (leb-false (length rs) k h) (getD rs k freeRecord .used) refl
+    go true f h = frees rs st k f (leb-false (length rs) k h) (inUse (getD rs k freeRecord)) refl
     go false f h = absurd (true≢false h)

@@ -9,7 +9,7 @@ use lib.ListN.{length, take, drop, getD}
 use lib.Seq.{take-take}
 use borrow.Author.Tests.{ltb-true, ltb-false}
 use Rattle.tables.specs.Lists.{atSlot}
-use Rattle.subscription.specs.Record.{freeRecord}
+use Rattle.subscription.specs.Record.{inUse, freeRecord}
 use Rattle.subscription_table.specs.Slot.{Cell, slotOctets, freeCell, shown as cellShows, overlong}
 use Rattle.subscription_table.specs.Table.{read, reading, fits, parts, slots, step}
 use Rattle.subscription.specs.declared.Subscription.{Subscription}
@@ -22,18 +22,18 @@ use Rattle.subscriptions.proofs.Slot.{length-parts}
 -- one slot that is there
 cell-reads : (k : ℕ) (set : List ℕ) (st : List ℕ) (r : Subscription) → shown k set st (readBy true r) ≡ reading set (record { slot = r; octets = take slotOctets (drop (k * slotOctets) st) })
 unfolding overlong cellShows
-cell-reads k set st r = used (r .used) refl
+cell-reads k set st r = used (inUse r) refl
   where
     x : Cell
     x = record { slot = r; octets = take slotOctets (drop (k * slotOctets) st) }
 
-    long : (b : Bool) → ltb slotOctets (r .length) ≡ b → r .used ≡ true → shown k set st (readBy true r) ≡ reading set x
+    long : (b : Bool) → ltb slotOctets (r .length) ≡ b → inUse r ≡ true → shown k set st (readBy true r) ≡ reading set x
     long true l u = rw (u, l) refl
     long false l u =
         let h : r .length ≤ slotOctets = ltb-false slotOctets (r .length) l in
         rw (u, l, take-take (r .length) slotOctets (drop (k * slotOctets) st) h) refl
 
-    used : (b : Bool) → r .used ≡ b → shown k set st (readBy true r) ≡ reading set x
+    used : (b : Bool) → inUse r ≡ b → shown k set st (readBy true r) ≡ reading set x
     used true u = long (ltb slotOctets (r .length)) refl u
     used false u = rw u refl
 

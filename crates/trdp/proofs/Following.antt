@@ -10,7 +10,7 @@ use lib.ListN.{length, getD}
 use borrow.Author.Tests.{ltb-true}
 use Rattle.arrival.specs.declared.Arrival.{Arrival}
 use Rattle.statistics.specs.declared.Statistics.{Statistics}
-use Rattle.subscription.specs.Record.{freeRecord, stateOf, substitutes}
+use Rattle.subscription.specs.Record.{inUse, freeRecord, stateOf, substitutes}
 use Rattle.subscription_table.specs.Slot.{slotOctets}
 use Rattle.subscription_table.specs.Table as table
 use Rattle.subscription_table.specs.Table.{Call, fits, step, telegram}
@@ -101,7 +101,7 @@ module _ (k : ℕ) (set st : List ℕ) where
   cases-meant false long v = refl
 
   read-meant : (fit : Bool) (r : Subscription) → meant set st (ofReading k (readBy fit r)) ≡ shown k set st (readBy fit r)
-  read-meant true r = cases-meant (r .used) (ltb slotOctets (r .length)) (record { state = stateOf (r .state); substitute = substitutes r; length = r .length })
+  read-meant true r = cases-meant (inUse r) (ltb slotOctets (r .length)) (record { state = stateOf (r .state); substitute = substitutes r; length = r .length })
   read-meant false r = refl
 
 pub slot-reads : (k : ℕ) (rs : List Subscription) (st : List ℕ) → Reads k rs st (ofReading k (readBy (fits (length rs) (length st)) (getD rs k freeRecord)))

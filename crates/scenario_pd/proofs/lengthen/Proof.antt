@@ -1,6 +1,6 @@
 -- A slot in use, or none such.
 use mathlib.Core.Path.{refl}
-use borrow.Author.Tests.{lt-ltb, le-ltb}
+use borrow.Author.Tests.{eq-eqb, ne-eqb, lt-ltb, le-ltb}
 use Rattle.answer.proofs.Rooms.{answered}
 use borrow.Author.Needs.{needs}
 use Rattle.scenario_pd.proofs.lengthen.Statement.{statement}
@@ -28,7 +28,7 @@ same-length : tie.Need-same-length
 same-length c = search needs
 
 returns : tie.Need-returns
-returns c = λ st. rw (lt-ltb _ _ (c .before .before .before .before .before .before .before .before .if1 .taken), c .before .before .before .before .before .if2 .taken) (record { words = answered (c .before .before .word .ensures); slots-after = refl; store-after = refl })
+returns c = λ st. rw (lt-ltb _ _ (c .before .before .before .before .before .before .before .before .before .if1 .taken), ne-eqb _ _ (c .before .before .before .before .before .if2 .taken)) (record { words = answered (c .before .before .word .ensures); slots-after = refl; store-after = refl })
 
 refuse-requires : tie.Need-refuse-requires
 refuse-requires c κs = search needs
@@ -37,7 +37,7 @@ same-length-2 : tie.Need-same-length-2
 same-length-2 c = search needs
 
 returns-2 : tie.Need-returns-2
-returns-2 c = λ st. rw (lt-ltb _ _ (c .before .before .before .before .before .before .before .if1 .taken), c .before .before .before .before .if2 .left) (record { words = answered (c .before .before .refuse .ensures .0); slots-after = c .before .before .refuse .ensures .1; store-after = refl })
+returns-2 c = λ st. rw (lt-ltb _ _ (c .before .before .before .before .before .before .before .before .if1 .taken), eq-eqb _ _ (c .before .before .before .before .if2 .left)) (record { words = answered (c .before .before .refuse .ensures .0); slots-after = c .before .before .refuse .ensures .1; store-after = refl })
 
 refuse-requires-2 : tie.Need-refuse-requires-2
 refuse-requires-2 c κs = search needs
@@ -49,4 +49,18 @@ returns-3 : tie.Need-returns-3
 returns-3 c = λ st. rw (le-ltb _ _ (c .before .before .before .before .if1 .left)) (record { words = answered (c .before .before .refuse2 .ensures .0); slots-after = c .before .before .refuse2 .ensures .1; store-after = refl })
 
 pub lengthen-spec : {M : Type 1} → statement M
-lengthen-spec = tie.close (tie.spec mul-r array-copy-out-r mul-records array-set-from-records slice-aggregate-word word-requires same-length returns refuse-requires same-length-2 returns-2 refuse-requires-2 same-length-3 returns-3)
+lengthen-spec = tie.close (tie.spec
+    mul-r
+    array-copy-out-r
+    mul-records
+    array-set-from-records
+    slice-aggregate-word
+    word-requires
+    same-length
+    returns
+    refuse-requires
+    same-length-2
+    returns-2
+    refuse-requires-2
+    same-length-3
+    returns-3)

@@ -32,4 +32,11 @@ returns-2 c =
     c .show .ensures ∙ record-shows (x .slots) (x .k) (x .r) (x .substitute .now) (x .store .now) _ (sym (c .before .before .before .read-record .ensures) ∙ c .before .enum-told .given .1)
 
 pub show-record-spec : {M : Type 1} → statement M
-show-record-spec = tie.close (tie.spec read-record-requires enum-told enum-told-2 slice-aggregate-result returns show-requires returns-2)
+show-record-spec = tie.close (tie.spec
+    read-record-requires
+    enum-told
+    enum-told-2
+    slice-aggregate-result
+    returns
+    show-requires
+    returns-2)

@@ -40,12 +40,12 @@ fn state_word(state: State) -> &'static str {
 }
 
 fn told(slot: &Subscription) -> String {
-    if !slot.used {
+    if slot.used == 0 {
         return "free".into();
     }
     let Filter { com_id, senders, destination } = slot.filter;
     let filter = format!("{com_id:08X} {:08X} {:08X} {destination:08X}", senders.start, senders.end);
-    let last = if slot.last.held { format!("{:08X} {:08X}", slot.last.sender, slot.last.counter) } else { "- -".into() };
+    let last = if slot.last.held != 0 { format!("{:08X} {:08X}", slot.last.sender, slot.last.counter) } else { "- -".into() };
     let (behaviour, state, timing) = (slot.behaviour, state_word(slot.state()), slot.timing);
     format!("used {filter} {:08X} {behaviour} {state} {last} {:016X} {}", timing.timeout, timing.start, slot.length)
 }
@@ -121,7 +121,7 @@ impl Pd {
         let (slot, length) = (slot_number(fields)?, fields.number8()?);
         fields.end()?;
         match slot.map(|slot| &mut self.slots[slot]) {
-            Ok(slot) if slot.used => {
+            Ok(slot) if slot.used != 0 => {
                 slot.length = length;
                 ok()
             }
