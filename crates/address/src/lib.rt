@@ -1,10 +1,12 @@
 // The sender range of a filter, for subscriptions and listeners.
+#![tactic(auto)]
+
 ghost use Rattle.std.specs.Prelude.{◌≡◌};
 ghost use Rattle.address.specs.SenderRange.{reversed, admits, same};
 
 // Both ends 0: any sender; end 0: only the start; else start to end.
 #[repr(C)]
-#[derive(Drop)]
+#[derive(Clone, Copy)]
 pub struct SenderRange {
     pub start: u32,
     pub end: u32,

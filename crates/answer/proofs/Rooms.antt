@@ -4,7 +4,7 @@ use Rattle.std.proofs.Common.{◌≡◌, ℕ, ◌+◌, ◌*◌, ◌<◌, ◌≤�
 use mathlib.Core.List.{flatten}
 use borrow.Author.Tests.{lt-leb}
 use Rattle.octets.specs.Octets.{put}
-use Rattle.hex.specs.Hex.{hex_of}
+use Rattle.hexadecimal.specs.Hex.{hex_of}
 use Rattle.octets.proofs.Halves.{put-append, put-nil}
 use mathlib.Core.Option.{Option, none, some}
 use Rattle.answer.specs.Answer.{Room, room, put_piece, put_all, Puts, answered_by, Answers, ascii, spaced}

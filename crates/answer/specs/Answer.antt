@@ -4,7 +4,7 @@ use Prim.Native.Char.{code}
 use Prim.Native.String.{String, [] as none, ◌∷◌ as ◌then◌}
 use Rattle.std.proofs.Math.Option.{Option, none as nothing, some}
 use Rattle.octets.specs.Octets.{put}
-use Rattle.hex.specs.Hex.{digits_of, hex_of}
+use Rattle.hexadecimal.specs.Hex.{digits_of, hex_of}
 
 -- the octets of a text
 abbrev pub ascii : String → List ℕ

@@ -1,5 +1,7 @@
 // An answer gathered in a room of octets, piece by piece. Each function answers the place behind its pieces; a piece that does not fit is left out, and
 // then the place is the room's end.
+#![tactic(auto)]
+
 ghost use Rattle.std.specs.Prelude.{[], ◌∷◌};
 ghost use Rattle.answer.specs.Answer.{Puts, spaced, decimal_of};
 ghost use Rattle.answer.specs.Answer.{decimal as decimal_word, number as number_word, octets as octets_word, signed as signed_word, word_of, refused as refused_word};
@@ -48,7 +50,7 @@ fn number(out: &mut [u8], at: usize, width: usize, x: u64) -> usize
 {
     let p = text(out, at, b" ");
     if width <= out.len() - p {
-        hex::put_number(out, p, width, x);
+        hexadecimal::put_number(out, p, width, x);
         return p + width;
     }
     out.len()
@@ -93,7 +95,7 @@ pub fn octets(out: &mut [u8], at: usize, s: &[u8]) -> usize
 {
     let p = text(out, at, b" ");
     if s.len() <= (out.len() - p) / 2 {
-        hex::put_octets(out, p, s);
+        hexadecimal::put_octets(out, p, s);
         return p + 2 * s.len();
     }
     out.len()

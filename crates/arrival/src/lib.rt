@@ -1,4 +1,6 @@
 // What comes with an arriving telegram.
+#![tactic(auto)]
+
 ghost use Rattle.std.specs.Prelude.{◌≡◌};
 ghost use Rattle.topography.specs.Topography.{passes};
 ghost use Rattle.arrival.specs.Arrival.{counts_of};
@@ -8,7 +10,7 @@ use topography::TopoCounts;
 
 // Sender, destination, arrival time in microseconds, and the local counters.
 #[repr(C)]
-#[derive(Drop)]
+#[derive(Clone, Copy)]
 pub struct Arrival {
     pub sender: u32,
     pub destination: u32,

@@ -1,4 +1,6 @@
 // What crosses to a host: every answer as a struct of numbers, whose refusal 0 means granted.
+#![tactic(auto)]
+
 ghost use Rattle.std.specs.Prelude.{◌≡◌, true, ◌<◌, length};
 ghost use Rattle.subscription_decisions.specs.Calls.{meaning};
 ghost use Rattle.subscription_decisions.specs.declared.Reading.TheVariants as reading;
@@ -18,7 +20,7 @@ use telegram::{Common, Written};
 
 // What a call answers: a slot, a count or a length; 0 where it is refused or has nothing to say.
 #[repr(C)]
-#[derive(Drop)]
+#[derive(Clone, Copy)]
 pub struct Outcome {
     pub refusal: u8,
     pub value: usize,
@@ -26,7 +28,7 @@ pub struct Outcome {
 
 // A PD datagram taken apart.
 #[repr(C)]
-#[derive(Drop)]
+#[derive(Clone, Copy)]
 pub struct PdDatagram {
     pub refusal: u8,
     pub header: PdHeader,
@@ -34,7 +36,7 @@ pub struct PdDatagram {
 
 // An MD datagram taken apart.
 #[repr(C)]
-#[derive(Drop)]
+#[derive(Clone, Copy)]
 pub struct MdDatagram {
     pub refusal: u8,
     pub header: MdHeader,
@@ -45,7 +47,7 @@ pub struct MdDatagram {
 
 // A sending: how many octets were written, and the publication after it.
 #[repr(C)]
-#[derive(Drop)]
+#[derive(Clone, Copy)]
 pub struct Sending {
     pub refusal: u8,
     pub length: usize,
@@ -55,7 +57,7 @@ pub struct Sending {
 // What reading a slot shows. State: 0 never received, 1 valid, 2 timed out. Either the substitute set whole, or so many octets
 // of the store from start on.
 #[repr(C)]
-#[derive(Drop)]
+#[derive(Clone, Copy)]
 pub struct Shown {
     pub refusal: u8,
     pub state: u8,
@@ -67,7 +69,7 @@ pub struct Shown {
 // What becomes of an MD telegram. Kind: 0 refused, 1 notified, 2 requested, 3 taken. Status: reply_status of what was taken, or
 // the status that a refusal carries.
 #[repr(C)]
-#[derive(Drop)]
+#[derive(Clone, Copy)]
 pub struct MdOutcome {
     pub kind: u8,
     pub refusal: u8,
@@ -78,14 +80,14 @@ pub struct MdOutcome {
 
 // A time check's code for each session slot.
 #[repr(C)]
-#[derive(Drop)]
+#[derive(Clone, Copy)]
 pub struct Codes {
     pub codes: [i32; 16],
 }
 
 // A session as a host sees it. State: 0 free, 1 waiting for reply, 2 owing a confirm, 3 with the user, 4 waiting for confirm.
 #[repr(C)]
-#[derive(Drop)]
+#[derive(Clone, Copy)]
 pub struct SessionSeen {
     pub refusal: u8,
     pub state: u8,

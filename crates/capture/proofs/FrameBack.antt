@@ -9,11 +9,11 @@ use borrow.Author.Tests.{le-leb, eq-eqb}
 use lib.Dec.{leb, eqb}
 use lib.ListN.{length}
 use Rattle.octets.specs.Octets.{Octets}
-use Rattle.hex.specs.Hex.{is_hex, hex_of}
+use Rattle.hexadecimal.specs.Hex.{is_hex, hex_of}
 use Rattle.capture.specs.declared.Frame.{Frame}
 use Rattle.capture.specs.declared.FrameLine.{FrameLine}
 use Rattle.capture.specs.Frame.{digits_at, has_pair, is_datagram, is_frame, datagram_of, fields_of, frame_of, line_of}
-use Rattle.hex.proofs.Back.{number-back, octets-back, digits-hex, octets-hex}
+use Rattle.hexadecimal.proofs.Back.{number-back, octets-back, digits-hex, octets-hex}
 
 hex-length : (s : List ℕ) → length (hex_of s) ≡ 2 * length s
 hex-length [] = refl

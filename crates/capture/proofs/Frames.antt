@@ -11,11 +11,11 @@ use lib.Dec.{ltb, leb, eqb}
 use lib.ListN.{length, get_or, take, drop, length-drop, get_or-eq_default}
 use lib.Seq.{take_all}
 use Rattle.octets.specs.Octets.{part}
-use Rattle.hex.specs.Hex.{digit, is_hex, number}
+use Rattle.hexadecimal.specs.Hex.{digit, is_hex, number}
 use Rattle.capture.specs.declared.Frame.{Frame}
 use Rattle.capture.specs.declared.FrameLine.{FrameLine}
 use Rattle.capture.specs.Frame.{space_at, digits_at, has_pair, is_head, is_datagram, is_frame, datagram_of, fields_of, frame_of}
-use Rattle.hex.proofs.Digits.{and_left, and_right, digit-more, octets-length}
+use Rattle.hexadecimal.proofs.Digits.{and_left, and_right, digit-more, octets-length}
 
 -- a number stays below 16 for each of its digits
 number-below : (s : List ℕ) (c i : ℕ) → is_hex s ≡ true → c < 16 ^ i → number c s < 16 ^ (i + length s)

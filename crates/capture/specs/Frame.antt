@@ -2,7 +2,7 @@
 use Rattle.std.specs.Prelude.{◌≡◌, ℕ, ◌%◌, List, ◌∷◌, ◌++◌, Bool, cond, ◌&&◌, eqb, leb, length, get_or, drop}
 use Rattle.octets.specs.Octets.{part, put}
 use Rattle.topography.specs.declared.TopoCounts.{TopoCounts}
-use Rattle.hex.specs.Hex.{is_hex, number, octets_of, digits_of, hex_of}
+use Rattle.hexadecimal.specs.Hex.{is_hex, number, octets_of, digits_of, hex_of}
 use Rattle.capture.specs.declared.Frame.{Frame}
 use Rattle.capture.specs.declared.HeadLine.{HeadLine}
 use Rattle.capture.specs.declared.HeadLine.TheVariants as head

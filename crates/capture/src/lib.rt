@@ -1,11 +1,13 @@
 // The lines of a capture: a head with the local counters, then one PD frame a line.
+#![tactic(auto)]
+
 ghost use Rattle.std.specs.Prelude.{◌≡◌, true, ◌+◌, ◌≤◌, length};
 ghost use Rattle.capture.specs.Frame.{digits_at, number_at, has_pair, is_head, head_of, is_datagram, is_frame, Reads};
 
 use topography::TopoCounts;
 
 // A PD frame; its datagram has so many octets.
-#[derive(Drop)]
+#[derive(Clone, Copy)]
 pub struct Frame {
     pub sender: u32,
     pub destination: u32,
@@ -14,14 +16,14 @@ pub struct Frame {
 }
 
 // Line 1 of a capture: the local counters, or a line of another form.
-#[derive(Drop)]
+#[derive(Clone, Copy)]
 pub enum HeadLine {
     Counters(TopoCounts),
     Bad,
 }
 
 // A further line: a frame, or a line of another form.
-#[derive(Drop)]
+#[derive(Clone, Copy)]
 pub enum FrameLine {
     Frame(Frame),
     Bad,
@@ -34,7 +36,7 @@ fn word_at(s: &[u8], at: usize) -> u32
     ensures { result ≡ number_at 8 at s.now }
 {
     let e = at + 8;
-    hex::number(&s[at..e]) as u32
+    hexadecimal::number(&s[at..e]) as u32
 }
 
 // Two fields of 8 digits at the front of a line, a single space between.
@@ -42,9 +44,9 @@ fn has_pair(s: &[u8]) -> bool
     requires { 17 ≤ length s.now }
     ensures { result ≡ has_pair s.now }
 {
-    if hex::is_hex(&s[0..8]) {
+    if hexadecimal::is_hex(&s[0..8]) {
         if s[8] == b' ' {
-            return hex::is_hex(&s[9..17]);
+            return hexadecimal::is_hex(&s[9..17]);
         }
     }
     false
@@ -70,7 +72,7 @@ fn is_datagram(digits: &[u8]) -> bool
     if digits.len() % 2 != 0 {
         return false;
     }
-    hex::is_hex(digits)
+    hexadecimal::is_hex(digits)
 }
 
 // Sender, destination, time, datagram; single spaces between.
@@ -82,7 +84,7 @@ fn is_frame(s: &[u8]) -> bool
     }
     if has_pair(s) {
         if s[17] == b' ' {
-            if hex::is_hex(&s[18..34]) {
+            if hexadecimal::is_hex(&s[18..34]) {
                 if s[34] == b' ' {
                     return is_datagram(&s[35..]);
                 }
@@ -110,11 +112,11 @@ pub fn read_frame(s: &[u8], buffer: &mut [u8; 1472]) -> FrameLine
     ensures { Reads s.now buffer.old result buffer.new }
 {
     if is_frame(s) {
-        hex::decode(&s[35..], buffer);
+        hexadecimal::decode(&s[35..], buffer);
         return FrameLine::Frame(Frame {
             sender: word_at(s, 0),
             destination: word_at(s, 9),
-            time: hex::number(&s[18..34]),
+            time: hexadecimal::number(&s[18..34]),
             octets: (s.len() - 35) / 2,
         });
     }

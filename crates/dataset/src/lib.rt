@@ -1,4 +1,6 @@
 // Datasets: from the wire to host form and back, by descriptions in a lent run of numbers.
+#![tactic(auto)]
+
 ghost use Rattle.std.specs.Prelude.{◌≡◌, true, [], ◌∷◌, ◌+◌, ◌*◌, ◌≤◌, length, drop};
 ghost use Rattle.octets.specs.Octets.{little, part};
 ghost use Rattle.scalars.specs.Scalars.{parts_of, size};
@@ -9,7 +11,7 @@ ghost use Rattle.dataset.specs.Steps.{LooksUp, items_for, count_of, element, ele
 use refusal::{DATA_LENGTH, DATA_TARGET, DESCRIPTION, NESTING, NOT_DESCRIBED};
 
 // The form of the data walked.
-#[derive(Drop)]
+#[derive(Clone, Copy)]
 pub enum Form {
     // Big endian.
     Wire,
@@ -18,7 +20,7 @@ pub enum Form {
 }
 
 // What a conversion answers.
-#[derive(Drop)]
+#[derive(Clone, Copy)]
 pub enum Converted {
     // How many octets were written.
     Octets(usize),
@@ -26,7 +28,7 @@ pub enum Converted {
 }
 
 // Where a description stands in the run.
-#[derive(Drop)]
+#[derive(Clone, Copy)]
 enum Place {
     // The place of its first element, and the number of elements.
     Elements(usize, usize),
@@ -34,14 +36,14 @@ enum Place {
 }
 
 // How many items an element has, or what a count of 0 behind it takes.
-#[derive(Drop)]
+#[derive(Clone, Copy)]
 enum Items {
     Unknown,
     Number(u32),
 }
 
 // What a walk answers.
-#[derive(Drop)]
+#[derive(Clone, Copy)]
 enum Step {
     // The place in the source behind what was walked.
     At(usize),

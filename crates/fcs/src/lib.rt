@@ -1,4 +1,6 @@
 // The frame check: CRC-32 of IEEE 802.3, eight octets a turn, by the steps of their half octets.
+#![tactic(auto)]
+
 ghost use Rattle.std.specs.Prelude.{◌≡◌, ◌*◌, ◌%◌, ◌^◌, ◌<◌, ◌≤◌, length};
 ghost use Rattle.fcs_steps.specs.Steps.{bits};
 ghost use Rattle.fcs.specs.Fcs.{register, crc32};

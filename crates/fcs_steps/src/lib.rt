@@ -1,4 +1,6 @@
 // 64 steps of the frame check's register for each half octet at each of the sixteen places of eight octets.
+#![tactic(auto)]
+
 ghost use Rattle.std.specs.Prelude.{◌≡◌, ◌*◌, ◌%◌, ◌^◌, ◌<◌};
 ghost use Rattle.fcs_steps.specs.Steps.{bits};
 

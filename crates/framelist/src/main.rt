@@ -1,4 +1,6 @@
 // A capture listed: PD frames read from standard input, one a line, each handed to a subscription and answered by a line on standard output.
+#![tactic(auto)]
+
 ghost use Rattle.std.specs.Prelude.{◌≡◌, ◌<◌, ◌≤◌, length};
 
 use capture::HeadLine;
@@ -17,7 +19,7 @@ const BLOCK: usize = 65_536;
 const ROOM: usize = 65_792;
 
 // Line 1 is awaited, frames are, or line 1 was bad and nothing is.
-#[derive(Drop)]
+#[derive(Clone, Copy)]
 enum Stage {
     Head,
     Frames,
@@ -25,7 +27,7 @@ enum Stage {
 }
 
 // The lines after line 1, the octets of answers that wait to be written, and the octets of the line begun: more than its room where it is too long.
-#[derive(Drop)]
+#[derive(Clone, Copy)]
 struct Run {
     stage: Stage,
     listing: Listing,
@@ -35,7 +37,7 @@ struct Run {
 }
 
 // A run after a block, and whether there was none or none is wanted.
-#[derive(Drop)]
+#[derive(Clone, Copy)]
 struct Turn {
     run: Run,
     is_over: bool,

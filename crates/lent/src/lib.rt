@@ -1,4 +1,6 @@
 // The calls over lent memory, for programs that hold their tables by value: each lends the first n of 40 slots.
+#![tactic(auto)]
+
 ghost use Rattle.std.specs.Prelude.{◌≡◌, [], ◌∷◌, take};
 ghost use Rattle.subscription_table.specs.Table as table;
 ghost use Rattle.subscription_decisions.specs.Calls.{meaning};
@@ -12,14 +14,14 @@ use subscription::{Filter, Subscription};
 use subscription_decisions::{Answer, Reading};
 
 // The slots after a call, and its answer.
-#[derive(Drop)]
+#[derive(Clone, Copy)]
 pub struct Called {
     pub slots: [Subscription; 40],
     pub answer: Answer,
 }
 
 // The slots and the statistics after a telegram, and its answer.
-#[derive(Drop)]
+#[derive(Clone, Copy)]
 pub struct Received {
     pub slots: [Subscription; 40],
     pub statistics: Statistics,
@@ -27,7 +29,7 @@ pub struct Received {
 }
 
 // A table of one slot and the statistics after a telegram, and its answer.
-#[derive(Drop)]
+#[derive(Clone, Copy)]
 pub struct One {
     pub slots: [Subscription; 1],
     pub statistics: Statistics,
@@ -35,7 +37,7 @@ pub struct One {
 }
 
 // The slot and the statistics after a telegram, and its answer.
-#[derive(Drop)]
+#[derive(Clone, Copy)]
 pub struct Alone {
     pub slot: Subscription,
     pub statistics: Statistics,

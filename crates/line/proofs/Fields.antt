@@ -9,7 +9,7 @@ use native.Mathlib.Omega.{arith}
 use lib.Dec.{eqb}
 use lib.ListN.{length, take, replicate}
 use Rattle.octets.specs.Octets.{part}
-use Rattle.hex.specs.Hex.{number}
+use Rattle.hexadecimal.specs.Hex.{number}
 use Rattle.line.specs.declared.Field.{Field}
 use Rattle.line.specs.Line.{number_field, octets_field, octets_in, ends, with_end, with_number, with_field, eight, target_of}
 use Rattle.line.proofs.Said.{fresh, before-read}

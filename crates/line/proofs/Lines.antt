@@ -12,8 +12,8 @@ use lib.ListN.{length, get_or, take, drop, drop_of_length-le, length-append}
 use lib.Seq.{drop-cons, take_at}
 use Rattle.io.specs.Counts.{IsPrefixLen}
 use Rattle.octets.specs.Octets.{part, put}
-use Rattle.hex.specs.Hex.{is_hex}
-use Rattle.hex.proofs.Digits.{and_left, and_right}
+use Rattle.hexadecimal.specs.Hex.{is_hex}
+use Rattle.hexadecimal.proofs.Digits.{and_left, and_right}
 use Rattle.line.specs.declared.Field.{Field}
 use Rattle.line.specs.declared.Count.{Count}
 use Rattle.line.specs.Line.{verb_is, has_digits, bad_at, read_to, field_of, octets_field, octets_in, ends, left, last_field, target_after}

@@ -1,4 +1,6 @@
 // Lines of octets: gathered from blocks of input, and taken apart into a verb and fields of hexadecimal digits with a single space before each.
+#![tactic(auto)]
+
 pub mod output;
 
 ghost use Rattle.std.specs.Prelude.{◌≡◌, false, cond, eqb, ◌+◌, ◌*◌, ◌%◌, ◌^◌, ◌≤◌, min, max, length, take, replicate};
@@ -8,7 +10,7 @@ ghost use Rattle.line.specs.Lines.{has_end, first_end, gathered, ended_of};
 ghost use Rattle.line.specs.Line.{verb_is, has_digits, bad_at, read_to, number_field, octets_field, octets_in, ends, left, last_field, target_after};
 
 // A field that was read, and the place behind it. Bad where the line has another form there or before.
-#[derive(Drop)]
+#[derive(Clone, Copy)]
 pub struct Field {
     pub value: u64,
     pub next: usize,
@@ -16,7 +18,7 @@ pub struct Field {
 }
 
 // How many octets a line's last field writes.
-#[derive(Drop)]
+#[derive(Clone, Copy)]
 pub struct Count {
     pub count: usize,
     pub is_bad: bool,
@@ -87,7 +89,7 @@ fn has_digits(s: &[u8], at: usize, n: usize) -> bool
     }
     let a = at + 1;
     let e = a + n;
-    hex::is_hex(&s[a..e])
+    hexadecimal::is_hex(&s[a..e])
 }
 
 // The field of n digits, at most 16, behind another.
@@ -103,7 +105,7 @@ pub fn number(s: &[u8], before: Field, n: usize) -> Field
         let a = at + 1;
         let e = a + n;
         return Field {
-            value: hex::number(&s[a..e]),
+            value: hexadecimal::number(&s[a..e]),
             next: e,
             is_bad: false,
         };
@@ -124,7 +126,7 @@ pub fn octets_field(s: &[u8], before: Field, target: &mut [u8]) -> Field
     if has_digits(s, at, n) {
         let a = at + 1;
         let e = a + n;
-        hex::decode(&s[a..e], target);
+        hexadecimal::decode(&s[a..e], target);
         return Field {
             value: 0,
             next: e,
@@ -173,7 +175,7 @@ pub fn octets(s: &[u8], before: Field, target: &mut [u8]) -> Count
         if is_last(s, before, n) {
             let a = at + 1;
             let e = a + 2 * n;
-            hex::decode(&s[a..e], target);
+            hexadecimal::decode(&s[a..e], target);
             return Count {
                 count: n,
                 is_bad: false,

@@ -1,4 +1,6 @@
 // What becomes of a line of a capture: its frame is handed to the subscription.
+#![tactic(auto)]
+
 ghost use Rattle.std.specs.Prelude.{◌≡◌, ◌≤◌, length, take};
 ghost use Rattle.answer.specs.Answer.{Puts};
 ghost use Rattle.statistics.specs.Statistics.{no_statistics};
@@ -15,14 +17,14 @@ use subscription_decisions::Answer;
 use topography::TopoCounts;
 
 // The frames totalled.
-#[derive(Drop)]
+#[derive(Clone, Copy)]
 pub struct Totals {
     pub delivered: u64,
     pub refused: u64,
 }
 
 // The local counters, slot 0, the statistics and the totals.
-#[derive(Drop)]
+#[derive(Clone, Copy)]
 pub struct Listing {
     pub local: TopoCounts,
     pub slot: Subscription,
@@ -31,7 +33,7 @@ pub struct Listing {
 }
 
 // What became of a line.
-#[derive(Drop)]
+#[derive(Clone, Copy)]
 pub enum Outcome {
     Delivered,
     Refused(u8),
@@ -39,7 +41,7 @@ pub enum Outcome {
 }
 
 // A listing after a line, and what became of it.
-#[derive(Drop)]
+#[derive(Clone, Copy)]
 pub struct Listed {
     pub listing: Listing,
     pub outcome: Outcome,

@@ -1,4 +1,6 @@
 // The MD header of 116 octets: taken apart, and written.
+#![tactic(auto)]
+
 pub mod uri;
 
 ghost use Rattle.std.specs.Prelude.{◌≡◌, ◌&&◌, ◌+◌, ◌≤◌, length};
@@ -12,7 +14,7 @@ use telegram::{Common, Family, Written};
 
 // The numbers of an MD header; identifier and URI fields stand beside it. A writer takes dataset_length from the dataset.
 #[repr(C)]
-#[derive(Drop)]
+#[derive(Clone, Copy)]
 pub struct MdHeader {
     pub common: Common,
     pub reply_status: i32,
@@ -20,7 +22,7 @@ pub struct MdHeader {
 }
 
 // What taking a datagram apart answers.
-#[derive(Drop)]
+#[derive(Clone, Copy)]
 pub enum MdTaken {
     Header(MdHeader),
     Refused(u8),

@@ -1,4 +1,6 @@
 // An arriving MD datagram, over the octets of listeners and sessions.
+#![tactic(auto)]
+
 ghost use Rattle.std.specs.Prelude.{◌≡◌, ◌&&◌};
 ghost use Rattle.md.specs.Uri.{sound};
 ghost use Rattle.md.specs.Md.{source_uri_of, destination_uri_of};
@@ -16,7 +18,7 @@ use session_table::{Answer, Found, ListenerSought, Sought};
 use timing::Timing;
 
 // What a telegram says that passed its checks; its destination URI stands beside it.
-#[derive(Drop)]
+#[derive(Clone, Copy)]
 pub struct Message {
     pub msg_type: u16,
     pub com_id: u32,

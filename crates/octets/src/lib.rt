@@ -1,4 +1,6 @@
 // Numbers of 2, 4 and 8 octets read from slices and written into them; octets copied, zeroed and compared.
+#![tactic(auto)]
+
 ghost use Rattle.std.specs.Prelude.{◌≡◌, [], ◌∷◌, ◌+◌, ◌≤◌, length, replicate};
 ghost use Rattle.octets.specs.Octets.{little, big, little_of, big_of, part, put, signed, unsigned};
 

@@ -1,4 +1,6 @@
 // Listeners and sessions as 1280 octets that a host lends: sixteen listeners of 48, then sixteen sessions of 32.
+#![tactic(auto)]
+
 ghost use Rattle.std.specs.Prelude.{◌≡◌, cond, not, eqb, ◌+◌, ◌≤◌, length};
 ghost use Rattle.octets.specs.Octets.{part};
 ghost use Rattle.packed.specs.Packed.{listener_of, state_of, session_of, listener_octets, state_number, timing_of, session_octets};

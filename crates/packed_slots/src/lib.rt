@@ -1,4 +1,6 @@
 // One listener or one session of the octets: read, written, and sought, with no other unpacked or written.
+#![tactic(auto)]
+
 ghost use Rattle.std.specs.Prelude.{◌≡◌, not, ◌&&◌, eqb, ◌<◌, length, get_or};
 ghost use Rattle.tables.specs.Lists.{lowest};
 ghost use Rattle.session_table.specs.Sought.{found_of, listener_sought_by, sought_by};

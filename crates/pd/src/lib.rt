@@ -1,4 +1,6 @@
 // The PD header of 40 octets: taken apart, and written.
+#![tactic(auto)]
+
 ghost use Rattle.std.specs.Prelude.{◌≡◌, ◌+◌, ◌≤◌, length};
 ghost use Rattle.refusal.specs.Refusal.{first_of};
 ghost use Rattle.octets.specs.Octets.{put};
@@ -9,7 +11,7 @@ use telegram::{Common, Family, Written};
 
 // The fields of a PD header. A writer takes dataset_length from the dataset.
 #[repr(C)]
-#[derive(Drop)]
+#[derive(Clone, Copy)]
 pub struct PdHeader {
     pub common: Common,
     pub reserved: u32,
@@ -18,7 +20,7 @@ pub struct PdHeader {
 }
 
 // What taking a datagram apart answers.
-#[derive(Drop)]
+#[derive(Clone, Copy)]
 pub enum PdTaken {
     Header(PdHeader),
     Refused(u8),

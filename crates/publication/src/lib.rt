@@ -1,4 +1,6 @@
 // A push publication: due, and sent through the PD writer.
+#![tactic(auto)]
+
 ghost use Rattle.std.specs.Prelude.{◌≡◌, ◌+◌, ◌≤◌, length};
 ghost use Rattle.refusal.specs.Refusal.{first_of};
 ghost use Rattle.publication.specs.Publication.{counted, made_of, due, send_checks, next_counter, Sends};
@@ -9,7 +11,7 @@ use telegram::{Common, Written};
 
 // A publication: its header, whose sequence counter is the next one, its cycle, and its last sending. Sent: 0 where nothing was sent.
 #[repr(C)]
-#[derive(Drop)]
+#[derive(Clone, Copy)]
 pub struct Publication {
     pub header: PdHeader,
     pub cycle: u32,
@@ -18,7 +20,7 @@ pub struct Publication {
 }
 
 // A sending's answer, and the record after it.
-#[derive(Drop)]
+#[derive(Clone, Copy)]
 pub struct Sent {
     pub publication: Publication,
     pub answer: Written,

@@ -1,4 +1,5 @@
 // The numbers that a call may refuse with, by name: document 01's table.
+#![tactic(auto)]
 
 // more than 32 slots, store not 1432 octets a slot, or a record that says over 1432
 pub const SIZES: u8 = 1;

@@ -1,4 +1,6 @@
 // Scalars turned round, one and in arrays: the octets of each part in the other order.
+#![tactic(auto)]
+
 ghost use Rattle.std.specs.Prelude.{◌≡◌, [], ◌∷◌, reverse, ◌+◌, ◌*◌, ◌≤◌, length};
 ghost use Rattle.octets.specs.Octets.{part, put};
 ghost use Rattle.scalars.specs.Scalars.{parts_of, size, shape_parts, turned_at, array_at};

@@ -1,4 +1,6 @@
 // Calls of the stack read from standard input, one a line, each answered by a line on standard output.
+#![tactic(auto)]
+
 ghost use Rattle.std.specs.Prelude.{◌≡◌, ◌<◌, ◌≤◌, length};
 
 use libc::STDIN_FILENO;
@@ -21,7 +23,7 @@ const NUMBERS: usize = 5_000;
 const STORE: usize = 57_280;
 
 // The state, the lines answered, the octets of answers that wait to be written, and the octets of the line begun: more than its room where it is too long.
-#[derive(Drop)]
+#[derive(Clone, Copy)]
 struct Run {
     state: State,
     lines: u64,
@@ -30,7 +32,7 @@ struct Run {
 }
 
 // A run after a block, and whether there was none.
-#[derive(Drop)]
+#[derive(Clone, Copy)]
 struct Turn {
     run: Run,
     is_over: bool,

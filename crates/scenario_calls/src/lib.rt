@@ -1,4 +1,5 @@
 // The calls by their verbs, and what each leaves to the next.
+#![tactic(auto)]
 
 mod counters;
 
@@ -13,7 +14,7 @@ use topography::TopoCounts;
 
 // The local topography counters, the publication, how many numbers the description run has, subscriptions, the octets of
 // listeners and sessions, and statistics.
-#[derive(Drop)]
+#[derive(Clone, Copy)]
 pub struct State {
     pub local: TopoCounts,
     pub held: Held,
@@ -24,7 +25,7 @@ pub struct State {
 }
 
 // The state after a call, and the place behind its answer; 0 where the line is bad.
-#[derive(Drop)]
+#[derive(Clone, Copy)]
 pub struct Outcome {
     pub state: State,
     pub at: usize,

@@ -12,7 +12,7 @@ use lib.ListN.{length, get_or, set, take, drop}
 use lib.Seq.{drop-cons, drop-drop}
 use lib.Dec.{eqb, leb}
 use borrow.Author.Tests.{leb-true}
-use Rattle.hex.proofs.Digits.{and_right}
+use Rattle.hexadecimal.proofs.Digits.{and_right}
 use Rattle.refusal.specs.Refusal.{answer, after}
 use Rattle.octets.specs.Octets.{big, part, put}
 use Rattle.dataset.specs.declared.Form.{Form}

@@ -1,4 +1,6 @@
 // The calls over a description run: `types`, `tohost` and `towire`. The run is the first numbers of lent memory.
+#![tactic(auto)]
+
 ghost use Rattle.std.specs.Prelude.{◌≡◌, ◌≤◌, ◌*◌, length, take};
 ghost use Rattle.io.specs.Counts.{IsPrefixLen};
 ghost use Rattle.octets.specs.Octets.{put};
@@ -8,7 +10,7 @@ ghost use Rattle.scenario_data.specs.Data.{numbers_of, is_run, types_said, conve
 use dataset::{Converted, Form};
 
 // How many numbers the run has after a call, and the place behind the call's answer; 0 where the line is none of these.
-#[derive(Drop)]
+#[derive(Clone, Copy)]
 pub struct Outcome {
     pub numbers: usize,
     pub at: usize,

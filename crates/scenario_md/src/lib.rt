@@ -1,4 +1,6 @@
 // The calls over listeners and sessions. Each answers the place behind its answer; 0 where the line is none of these.
+#![tactic(auto)]
+
 ghost use Rattle.std.proofs.Math.Option.{some};
 ghost use Rattle.session_table.specs.Table.{telegram};
 ghost use Rattle.scenario_md.specs.Lines.{calls, listen_asked, unlisten_asked, call_asked, md_asked, reply_asked, confirm_asked, check_asked, session_asked, look_asked, exchange_asked, user_asked, asked_of};
@@ -11,7 +13,7 @@ use telegram::Family;
 use topography::TopoCounts;
 
 // The statistics after a call, and the place behind its answer.
-#[derive(Drop)]
+#[derive(Clone, Copy)]
 pub struct Outcome {
     pub statistics: Statistics,
     pub at: usize,

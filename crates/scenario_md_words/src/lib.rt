@@ -1,4 +1,6 @@
 // What the calls over listeners and sessions answer, in words.
+#![tactic(auto)]
+
 ghost use Rattle.answer.specs.Answer.{Puts};
 ghost use Rattle.session_table.specs.Calls.{meaning};
 ghost use Rattle.session_table.specs.Table.{requested, taken, codes as codes_told};

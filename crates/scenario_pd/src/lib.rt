@@ -1,4 +1,6 @@
 // The calls over subscriptions.
+#![tactic(auto)]
+
 ghost use Rattle.std.specs.Prelude.{◌≡◌, List, ℕ, replicate};
 ghost use Rattle.std.proofs.Math.Option.{some};
 ghost use Rattle.answer.specs.Answer.{Puts, refused};
@@ -19,14 +21,14 @@ use subscription::Filter;
 use topography::TopoCounts;
 
 // The records after a call, and the place behind its answer; 0 where the line is none of these.
-#[derive(Drop)]
+#[derive(Clone, Copy)]
 pub struct Turned {
     pub slots: Slots,
     pub at: usize,
 }
 
 // The same with the statistics.
-#[derive(Drop)]
+#[derive(Clone, Copy)]
 pub struct Outcome {
     pub slots: Slots,
     pub statistics: Statistics,

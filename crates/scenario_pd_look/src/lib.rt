@@ -1,4 +1,6 @@
 // The calls that only look at subscriptions: `read`, `slot` and `part`. The program holds forty records and lends the first of them; the store is lent memory.
+#![tactic(auto)]
+
 ghost use Rattle.std.specs.Prelude.{◌≡◌, get_or};
 ghost use Rattle.answer.specs.Answer.{Puts, Answers};
 ghost use Rattle.subscription.specs.Record.{free_record};
@@ -11,7 +13,7 @@ use subscription::Subscription;
 use subscription_decisions::Reading;
 
 // The records, and how many of them and how many octets of the store each call is lent.
-#[derive(Drop)]
+#[derive(Clone, Copy)]
 pub struct Slots {
     pub records: [Subscription; 40],
     pub lent: usize,

@@ -1,4 +1,6 @@
 // What the calls over subscriptions answer, in words.
+#![tactic(auto)]
+
 ghost use Rattle.answer.specs.Answer.{Puts};
 ghost use Rattle.subscription_decisions.specs.Calls.{meaning};
 ghost use Rattle.scenario_pd_words.specs.Words.{answer_words, state_words, granted_words, last_words, record_words};

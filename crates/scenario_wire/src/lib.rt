@@ -1,5 +1,7 @@
 // The calls that know no table: the frame check, and telegrams taken apart and written.
 // Each answers the place behind its answer; 0 where the line is none of its own.
+#![tactic(auto)]
+
 pub mod publications;
 
 ghost use Rattle.std.specs.Prelude.{◌≡◌};
@@ -13,13 +15,13 @@ use pd::{PdHeader, PdTaken};
 use telegram::Common;
 
 // Header fields that were read, and the last of them.
-#[derive(Drop)]
+#[derive(Clone, Copy)]
 pub struct CommonFields {
     pub common: Common,
     pub last: Field,
 }
 
-#[derive(Drop)]
+#[derive(Clone, Copy)]
 pub struct PdFields {
     pub header: PdHeader,
     pub last: Field,

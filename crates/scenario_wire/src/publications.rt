@@ -5,14 +5,14 @@ ghost use Rattle.scenario_wire.specs.Publications.{pub_said, sent_said, send_sai
 use publication::Publication;
 
 // The publication, once one is made.
-#[derive(Drop)]
+#[derive(Clone, Copy)]
 pub enum Held {
     Nothing,
     Made(Publication),
 }
 
 // The publication after a call, and the place behind the call's answer; 0 where the line is none of these.
-#[derive(Drop)]
+#[derive(Clone, Copy)]
 pub struct Outcome {
     pub held: Held,
     pub at: usize,

@@ -1,4 +1,6 @@
 // What the calls over telegrams answer, in words.
+#![tactic(auto)]
+
 ghost use Rattle.answer.specs.Answer.{Puts};
 ghost use Rattle.scenario_wire_words.specs.Words.{common_words, pd_words, session_words, md_words, written_words};
 

@@ -1,4 +1,6 @@
 // Message sessions: one listener and one session, by value.
+#![tactic(auto)]
+
 ghost use Rattle.std.specs.Prelude.{◌≡◌, cond, pos};
 ghost use Rattle.md.specs.Uri.{equal};
 ghost use Rattle.timing.specs.Timing.{time_up};
@@ -22,7 +24,7 @@ pub const MP: u16 = 0x4D70;
 pub const MQ: u16 = 0x4D71;
 
 // Which requests and notifications a listener is for: a ComId, a range of senders, a destination URI (empty: any).
-#[derive(Drop)]
+#[derive(Clone, Copy)]
 pub struct Listener {
     pub used: bool,
     pub com_id: u32,
@@ -31,7 +33,7 @@ pub struct Listener {
 }
 
 // What a session waits for. Each waiting state carries its start and timeout.
-#[derive(Drop)]
+#[derive(Clone, Copy)]
 pub enum SessionState {
     Free,
     WaitingForReply(Timing),
@@ -41,7 +43,7 @@ pub enum SessionState {
 }
 
 // A session: its identifier and its state.
-#[derive(Drop)]
+#[derive(Clone, Copy)]
 pub struct Session {
     pub id: [u8; 16],
     pub state: SessionState,
@@ -177,7 +179,7 @@ pub fn code_of(s: SessionState, time: u64) -> i32
 }
 
 // What an incoming telegram asks of a session: that it waits for a reply, or for a confirm.
-#[derive(Drop)]
+#[derive(Clone, Copy)]
 pub enum Waits {
     Reply,
     Confirm,

@@ -1,4 +1,6 @@
 // What the calls on listeners and sessions answer, and what is sought among them.
+#![tactic(auto)]
+
 ghost use Rattle.std.specs.Prelude.{◌≡◌};
 ghost use Rattle.refusal.specs.Refusal.{no_free_session};
 ghost use Rattle.session.specs.Session.{is_free};
@@ -10,14 +12,14 @@ use address::SenderRange;
 use session::{Listener, Session, Waits};
 
 // A place in a table, or none.
-#[derive(Drop)]
+#[derive(Clone, Copy)]
 pub enum Found {
     At(usize),
     Nothing,
 }
 
 // What a call answers.
-#[derive(Drop)]
+#[derive(Clone, Copy)]
 pub enum Answer {
     // The listener's slot.
     Listening(usize),
@@ -37,7 +39,7 @@ pub enum Answer {
 }
 
 // Where a session was opened, or why not.
-#[derive(Drop)]
+#[derive(Clone, Copy)]
 pub enum Place {
     Slot(usize),
     InUse,
@@ -45,7 +47,7 @@ pub enum Place {
 }
 
 // What a listener is sought for; the URI stands beside it.
-#[derive(Drop)]
+#[derive(Clone, Copy)]
 pub enum ListenerSought {
     Vacant,
     // A ComId and a sender.
@@ -55,7 +57,7 @@ pub enum ListenerSought {
 }
 
 // What a session is sought for.
-#[derive(Drop)]
+#[derive(Clone, Copy)]
 pub enum Sought {
     Vacant,
     InUse,

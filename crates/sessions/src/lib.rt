@@ -1,5 +1,7 @@
 // Message sessions: the user's calls and the time check, over the octets of listeners and sessions. Each looks at the records that it
 // needs, and writes the one that it changed.
+#![tactic(auto)]
+
 ghost use Rattle.std.specs.Prelude.{◌≡◌};
 ghost use Rattle.refusal.specs.Refusal.{first_of};
 ghost use Rattle.session_table.specs.Table as table;

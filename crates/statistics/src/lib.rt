@@ -1,4 +1,6 @@
 // Statistics of arriving telegrams: received, delivered, and each refusal number, PD apart from MD.
+#![tactic(auto)]
+
 ghost use Rattle.std.specs.Prelude.{◌≡◌};
 ghost use Rattle.statistics.specs.Statistics.{next, counted, added, no_statistics};
 
@@ -6,7 +8,7 @@ use telegram::Family;
 
 // Counters of one family; refused[n] counts refusal number n.
 #[repr(C)]
-#[derive(Drop)]
+#[derive(Clone, Copy)]
 pub struct Counters {
     pub received: u32,
     pub delivered: u32,
@@ -14,7 +16,7 @@ pub struct Counters {
 }
 
 #[repr(C)]
-#[derive(Drop)]
+#[derive(Clone, Copy)]
 pub struct Statistics {
     pub pd: Counters,
     pub md: Counters,

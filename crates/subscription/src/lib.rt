@@ -1,4 +1,6 @@
 // One PD subscription: its record, and what it decides by value.
+#![tactic(auto)]
+
 ghost use Rattle.std.specs.Prelude.{◌≡◌};
 ghost use Rattle.subscription.specs.Record.{matches, unsound, equal, forgotten, forget, remembered, fresh, free_record, granted_record, record_wants, record_takes, record_taken, state_of, record_due, record_marked, substitutes};
 
@@ -7,7 +9,7 @@ use timing::Timing;
 
 // Which telegrams a subscription is for: a ComId, a range of senders, a destination (0: any).
 #[repr(C)]
-#[derive(Drop)]
+#[derive(Clone, Copy)]
 pub struct Filter {
     pub com_id: u32,
     pub senders: SenderRange,
@@ -16,7 +18,7 @@ pub struct Filter {
 
 // The sender and counter last taken. Held: 0 where nothing was taken since subscribing or since a timeout.
 #[repr(C)]
-#[derive(Drop)]
+#[derive(Clone, Copy)]
 pub struct LastTaken {
     pub held: u8,
     pub sender: u32,
@@ -26,7 +28,7 @@ pub struct LastTaken {
 // A slot of the subscription table. Used: 0 free, any other in use. Behaviour: 0 zero, 1 keep, any other substitute. State: 0 never
 // received, 1 valid, any other timed out.
 #[repr(C)]
-#[derive(Drop)]
+#[derive(Clone, Copy)]
 pub struct Subscription {
     pub used: u8,
     pub filter: Filter,
@@ -38,7 +40,7 @@ pub struct Subscription {
 }
 
 // A telegram that passed checks 2 to 7, as a slot sees it; its dataset stands beside.
-#[derive(Drop)]
+#[derive(Clone, Copy)]
 pub struct Heard {
     pub com_id: u32,
     pub sender: u32,
@@ -48,7 +50,7 @@ pub struct Heard {
 }
 
 // What reading a slot answers of it.
-#[derive(Drop)]
+#[derive(Clone, Copy)]
 pub enum State {
     NeverReceived,
     Valid,

@@ -1,4 +1,6 @@
 // What each call over the subscription table decides of a slot, by value; the records and the store are walked above.
+#![tactic(auto)]
+
 ghost use Rattle.std.specs.Prelude.{◌≡◌, cond, not, ◌+◌, ◌*◌, ◌≤◌, eqb, length};
 ghost use Rattle.refusal.specs.Refusal.{first_of};
 ghost use Rattle.subscription.specs.Record.{unsound, granted_record};
@@ -19,14 +21,14 @@ use subscription::{Filter, Heard, State, Subscription};
 use subscription_step::{Event, Stepped, Tally};
 
 // What a sweep over the slots answers.
-#[derive(Drop)]
+#[derive(Clone, Copy)]
 pub enum Swept {
     Done(Tally),
     Refused(u8),
 }
 
 // What a call answers.
-#[derive(Drop)]
+#[derive(Clone, Copy)]
 pub enum Answer {
     // The slot granted.
     Granted(usize),
@@ -39,14 +41,14 @@ pub enum Answer {
 }
 
 // A slot after it was freed or found free, and the answer.
-#[derive(Drop)]
+#[derive(Clone, Copy)]
 pub struct Released {
     pub slot: Subscription,
     pub answer: Answer,
 }
 
 // What the records show of a filter: one in use has it, a slot is free, and the lowest of those.
-#[derive(Drop)]
+#[derive(Clone, Copy)]
 pub struct Found {
     pub held: bool,
     pub free: bool,
@@ -54,7 +56,7 @@ pub struct Found {
 }
 
 // What reading a slot shows: its state, and the substitute set or the first octets of its part.
-#[derive(Drop)]
+#[derive(Clone, Copy)]
 pub struct View {
     pub state: State,
     pub substitute: bool,
@@ -62,7 +64,7 @@ pub struct View {
 }
 
 // What reading answers.
-#[derive(Drop)]
+#[derive(Clone, Copy)]
 pub enum Reading {
     Shows(View),
     Refused(u8),

@@ -1,25 +1,27 @@
 // One slot at an event, by value: its record, its part of the store, and the tally carried on; and what reading shows of it.
+#![tactic(auto)]
+
 ghost use Rattle.std.specs.Prelude.{◌≡◌, ◌+◌, length};
 ghost use Rattle.subscription_step.specs.Step.{concerns, one, Room, Steps, stored_at, shown_at};
 
 use subscription::{Heard, Subscription};
 
 // How many slots a telegram matched, and how many took it or were marked.
-#[derive(Drop)]
+#[derive(Clone, Copy)]
 pub struct Tally {
     pub matched: usize,
     pub changed: usize,
 }
 
 // What happens at every slot of a table: a telegram arrives, or the clock is looked at.
-#[derive(Drop)]
+#[derive(Clone, Copy)]
 pub enum Event {
     Telegram(Heard),
     Clock(u64),
 }
 
 // A record after an event, and the tally carried on.
-#[derive(Drop)]
+#[derive(Clone, Copy)]
 pub struct Stepped {
     pub slot: Subscription,
     pub tally: Tally,

@@ -1,4 +1,6 @@
 // The subscription table over lent memory: records, and a store of 1432 octets for each.
+#![tactic(auto)]
+
 ghost use Rattle.std.specs.Prelude.{◌≡◌, get_or};
 ghost use Rattle.subscription.specs.Record.{free_record};
 ghost use Rattle.subscription_table.specs.Table as table;

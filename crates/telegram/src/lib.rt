@@ -1,4 +1,6 @@
 // What PD and MD telegrams have in common: the first 24 octets, the checks 2 to 6, the writer's refusals, check field and padding.
+#![tactic(auto)]
+
 ghost use Rattle.std.specs.Prelude.{◌≡◌, ◌+◌, ◌≤◌, eqb, length, take};
 ghost use Rattle.refusal.specs.Refusal.{first_of};
 ghost use Rattle.octets.specs.Octets.{put};
@@ -8,7 +10,7 @@ use refusal::{DATASET_LONG, FRAME_CHECK, LENGTH, MSG_TYPE, SHORT, TARGET_SHORT, 
 
 // The first 24 octets of a header.
 #[repr(C)]
-#[derive(Drop)]
+#[derive(Clone, Copy)]
 pub struct Common {
     pub sequence_counter: u32,
     pub protocol_version: u16,
@@ -20,14 +22,14 @@ pub struct Common {
 }
 
 // Process data or message data.
-#[derive(Drop)]
+#[derive(Clone, Copy)]
 pub enum Family {
     Pd,
     Md,
 }
 
 // What writing a telegram answers.
-#[derive(Drop)]
+#[derive(Clone, Copy)]
 pub enum Written {
     // How many octets were written: header, dataset and padding.
     Octets(usize),

@@ -1,10 +1,12 @@
 // Time: a clock reading and a timeout, in microseconds.
+#![tactic(auto)]
+
 ghost use Rattle.std.specs.Prelude.{◌≡◌};
 ghost use Rattle.timing.specs.Timing.{passed, time_up};
 
 // When supervision started, and the timeout (0: none).
 #[repr(C)]
-#[derive(Drop)]
+#[derive(Clone, Copy)]
 pub struct Timing {
     pub start: u64,
     pub timeout: u32,

@@ -1,10 +1,12 @@
 // Topography: a telegram's two counters against the local ones.
+#![tactic(auto)]
+
 ghost use Rattle.std.specs.Prelude.{◌≡◌};
 ghost use Rattle.topography.specs.Topography.{agrees, alone, passes};
 
 // A telegram's counters, or the local ones.
 #[repr(C)]
-#[derive(Drop)]
+#[derive(Clone, Copy)]
 pub struct TopoCounts {
     pub etb_topo_cnt: u32,
     pub op_trn_topo_cnt: u32,

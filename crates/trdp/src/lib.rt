@@ -1,4 +1,6 @@
 // The calls of the stack for a host in C or Rust: every answer is a struct of numbers, whose refusal 0 means granted.
+#![tactic(auto)]
+
 ghost use Rattle.std.specs.Prelude.{◌≡◌, ◌<◌, length};
 ghost use Rattle.refusal.specs.Refusal.{first_of};
 ghost use Rattle.fcs.specs.Fcs.{crc32};

@@ -1,8 +1,8 @@
 -- The digits fit behind the space, or not.
 use Rattle.std.proofs.Common.{◌≡◌, ◌+◌, length, arith, rules}
 use Rattle.answer.specs.Answer.{spaced, number}
-use Rattle.hex.specs.Hex.{digits_of}
-use Rattle.hex.proofs.Written.{digits-length}
+use Rattle.hexadecimal.specs.Hex.{digits_of}
+use Rattle.hexadecimal.proofs.Written.{digits-length}
 use Rattle.answer.proofs.Rooms.{fits, over, within, ◌⨟◌}
 use Rattle.answer.proofs.number.Statement.{statement}
 use Rattle.answer.proofs.number.Tie as tie

@@ -1,7 +1,7 @@
 -- Two digits for each octet fit behind the space, or not.
 use Rattle.std.proofs.Common.{◌≡◌, ◌+◌, ◌*◌, length, arith, rules}
 use Rattle.answer.specs.Answer.{spaced, octets}
-use Rattle.hex.specs.Hex.{hex_of}
+use Rattle.hexadecimal.specs.Hex.{hex_of}
 use Rattle.answer.proofs.Rooms.{fits, over, within, hex-length, ◌⨟◌}
 use Rattle.answer.proofs.octets.Statement.{statement}
 use Rattle.answer.proofs.octets.Tie as tie

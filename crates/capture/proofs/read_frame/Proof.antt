@@ -6,9 +6,9 @@ use Prim.Native.Nat.{ℕ, ◌-◌, ◌/◌}
 use native.Mathlib.Omega.{arith}
 use lib.ListN.{length, take, drop, length-take, length-drop}
 use Rattle.octets.specs.Octets.{put}
-use Rattle.hex.specs.Hex.{octets_of}
+use Rattle.hexadecimal.specs.Hex.{octets_of}
 use Rattle.capture.specs.Frame.{is_frame, datagram_of}
-use Rattle.hex.proofs.Digits.{octets-length}
+use Rattle.hexadecimal.proofs.Digits.{octets-length}
 use Rattle.capture.proofs.Frames.{whole, rest}
 use borrow.Author.Rules.{rules}
 use Rattle.capture.proofs.read_frame.Statement.{statement}

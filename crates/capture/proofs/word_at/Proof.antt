@@ -6,7 +6,7 @@ use native.Mathlib.Nat.{add-sub_cancel_left}
 use native.Mathlib.Omega.{arith}
 use lib.ListN.{length, take, drop, length-take}
 use Rattle.octets.specs.Octets.{part}
-use Rattle.hex.specs.Hex.{number}
+use Rattle.hexadecimal.specs.Hex.{number}
 use Rattle.capture.specs.Frame.{number_at}
 use Rattle.capture.proofs.Frames.{word_fits}
 use borrow.Author.Rules.{rules}

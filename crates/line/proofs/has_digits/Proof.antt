@@ -4,7 +4,7 @@ use Prim.Native.Nat.{ℕ, ◌+◌, ◌-◌}
 use native.Mathlib.Omega.{arith}
 use native.Mathlib.Nat.{add-sub_cancel_left}
 use lib.ListN.{take, drop}
-use Rattle.hex.specs.Hex.{is_hex}
+use Rattle.hexadecimal.specs.Hex.{is_hex}
 use Rattle.line.proofs.Lines.{no_room, no-space, behind-space}
 use borrow.Author.Rules.{rules}
 use Rattle.line.proofs.has_digits.Statement.{statement}

@@ -5,7 +5,7 @@ use mathlib.Core.Bool.{true, false}
 use native.Mathlib.Nat.{add-sub_cancel_left}
 use lib.ListN.{take, drop, length-take, length-drop}
 use Rattle.octets.specs.Octets.{part}
-use Rattle.hex.specs.Hex.{number}
+use Rattle.hexadecimal.specs.Hex.{number}
 use Rattle.line.specs.Line.{has_digits, read_to}
 use native.Mathlib.Omega.{arith}
 use Rattle.line.proofs.Lines.{digits-within, digits-hex, field_found, field-bad}

@@ -8,8 +8,8 @@ use native.Mathlib.Omega.{arith}
 use lib.ListN.{length, take, drop}
 use Rattle.octets.specs.Octets.{part, put}
 use Rattle.octets.proofs.Parts.{part_length}
-use Rattle.hex.specs.Hex.{octets_of}
-use Rattle.hex.proofs.Digits.{octets-length}
+use Rattle.hexadecimal.specs.Hex.{octets_of}
+use Rattle.hexadecimal.proofs.Digits.{octets-length}
 use Rattle.line.specs.Line.{has_digits, octets_in}
 use Rattle.line.proofs.Lines.{digits-within, digits-hex, last_digits, last_found, last-bad, last-long, target_is, front-counts, front_read}
 use borrow.Author.Rules.{rules}

@@ -6,8 +6,8 @@ use native.Mathlib.Nat.{add-sub_cancel_left}
 use lib.ListN.{length, take, drop}
 use Rattle.octets.specs.Octets.{part, put}
 use Rattle.octets.proofs.Parts.{part_length}
-use Rattle.hex.specs.Hex.{octets_of}
-use Rattle.hex.proofs.Digits.{octets-length}
+use Rattle.hexadecimal.specs.Hex.{octets_of}
+use Rattle.hexadecimal.proofs.Digits.{octets-length}
 use Rattle.line.specs.declared.Field.{Field}
 use Rattle.line.specs.Line.{has_digits, octets_in}
 use native.Mathlib.Omega.{arith}

@@ -1,0 +1,17 @@
+-- The loop's invariant: writing the digits that are left completes the writing of all.
+use mathlib.Core.Path.{◌≡◌, refl, sym, ap, ◌∙◌}
+use Prim.Native.Nat.{ℕ, suc, ◌+◌, ◌-◌, ◌/◌, ◌≤◌}
+use native.Mathlib.Omega.{arith}
+use lib.ListN.{length, set, length-set}
+use Rattle.octets.specs.Octets.{put}
+use Rattle.octets.proofs.Halves.{put-nil}
+use Rattle.hexadecimal.specs.Hex.{digits_of}
+use Rattle.hexadecimal.proofs.Written.{digits_more}
+use borrow.Author.Rules.{rules}
+use Rattle.hexadecimal.proofs.put_number.Given as goal
+
+abbrev pub invariant-loop-i : goal.invariant-loop-i
+invariant-loop-i l = (l.i ≤ l.n) × (length l.target ≡ length l.initial.target) × (put l.k (digits_of l.i l.rest) l.target ≡ put l.k (digits_of l.n l.x) l.initial.target)
+
+abbrev pub decreases-loop-i : goal.decreases-loop-i
+decreases-loop-i l = l.i
