@@ -1,11 +1,6 @@
 -- The loop's invariant: the look-up from the place on finds what the whole look-up finds.
-use mathlib.Core.Path.{◌≡◌, sym, ◌∙◌}
-use Prim.Native.Nat.{◌-◌}
-use native.Mathlib.Omega.{arith}
-use borrow.Author.Rules.{rules}
-use lib.ListN.{length, drop}
+use Rattle.std.proofs.Common.{◌≡◌, ◌-◌, length, drop}
 use Rattle.dataset.specs.Descriptions.{look_up, scan}
-use Rattle.dataset.proofs.Descriptions.{look-long, look-passed, look-found, look-long-run, look-start, look-bad, look-end}
 use Rattle.dataset.proofs.look_up.Given as goal
 
 abbrev pub invariant-loop-at : goal.invariant-loop-at
