@@ -1,18 +1,16 @@
 -- A frame that is written as a line reads back: the line is of the form, its fields are the frame's, its octets are the datagram.
 -- Assumes nothing.
-use mathlib.Core.Path.{◌≡◌, refl, sym, ap, ap₂, ◌∙◌}
+use mathlib.Core.Path.{◌≡◌, refl, ap, ap₂, ◌∙◌}
 use mathlib.Core.Bool.{Bool, true, cond, ◌&&◌}
 use mathlib.Core.List.{List, [], ◌∷◌}
-use Prim.Native.Nat.{ℕ, suc, ◌+◌, ◌*◌, ◌%◌, ◌^◌, ◌<◌, ◌≤◌}
+use Prim.Native.Nat.{ℕ, suc, ◌*◌, ◌%◌, ◌^◌, ◌<◌, ◌≤◌}
 use native.Mathlib.Omega.{arith}
 use borrow.Author.Tests.{le-leb, eq-eqb}
-use lib.Dec.{leb, eqb}
 use lib.ListN.{length}
 use Rattle.octets.specs.Octets.{Octets}
-use Rattle.hexadecimal.specs.Hex.{is_hex, hex_of}
-use Rattle.capture.specs.declared.Frame.{Frame}
+use Rattle.hexadecimal.specs.Hex.{hex_of}
 use Rattle.capture.specs.declared.FrameLine.{FrameLine}
-use Rattle.capture.specs.Frame.{digits_at, has_pair, is_datagram, is_frame, datagram_of, fields_of, frame_of, line_of}
+use Rattle.capture.specs.Frame.{digits_at, is_datagram, is_frame, datagram_of, fields_of, frame_of, line_of}
 use Rattle.hexadecimal.proofs.Back.{number-back, octets-back, digits-hex, octets-hex}
 
 hex-length : (s : List ℕ) → length (hex_of s) ≡ 2 * length s

@@ -8,9 +8,8 @@ use native.Mathlib.Nat.{add-zero, zero-add, pow-le-pow_right}
 use native.Mathlib.Omega.{arith}
 use borrow.Author.Tests.{ltb-true, ltb-false, leb-true, eqb-true}
 use lib.Dec.{ltb, leb, eqb}
-use lib.ListN.{length, get_or, take, drop, length-drop, get_or-eq_default}
+use lib.ListN.{length, take, drop, length-drop, get_or-eq_default}
 use lib.Seq.{take_all}
-use Rattle.octets.specs.Octets.{part}
 use Rattle.hexadecimal.specs.Hex.{digit, is_hex, number}
 use Rattle.capture.specs.declared.Frame.{Frame}
 use Rattle.capture.specs.declared.FrameLine.{FrameLine}

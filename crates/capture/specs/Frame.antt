@@ -1,7 +1,6 @@
 -- The lines of a capture: a head with the local counters, then one PD frame a line. Capitals only; LF is not part of a line.
 use Rattle.std.specs.Prelude.{◌≡◌, ℕ, ◌%◌, List, ◌∷◌, ◌++◌, Bool, cond, ◌&&◌, eqb, leb, length, get_or, drop}
 use Rattle.octets.specs.Octets.{part, put}
-use Rattle.topography.specs.declared.TopoCounts.{TopoCounts}
 use Rattle.hexadecimal.specs.Hex.{is_hex, number, octets_of, digits_of, hex_of}
 use Rattle.capture.specs.declared.Frame.{Frame}
 use Rattle.capture.specs.declared.HeadLine.{HeadLine}

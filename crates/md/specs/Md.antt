@@ -1,5 +1,5 @@
 -- The MD header of 116 octets: taken apart, and written.
-use Rattle.std.specs.Prelude.{ℕ, List, [], ◌++◌, Bool, cond, ◌&&◌, leb, length, replicate}
+use Rattle.std.specs.Prelude.{ℕ, List, [], ◌++◌, cond, ◌&&◌, leb, length, replicate}
 use Rattle.refusal.specs.Refusal.{Check, first_of, answer}
 use Rattle.octets.specs.Octets.{big, big_of, part, signed, unsigned}
 use Rattle.telegram.specs.Telegram.{common_of, header_checks, checks, write_checks, common_octets, telegram_of}

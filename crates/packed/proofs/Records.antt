@@ -1,7 +1,7 @@
 -- One listener and one session: what was packed means it again. And what is written over as many octets is all there is.
 -- Assumes nothing.
 use mathlib.Core.Path.{◌≡◌, refl, sym, ap, ap₂, subst, ◌∙◌}
-use mathlib.Core.List.{List, [], ◌∷◌, ◌++◌, append-nil}
+use mathlib.Core.List.{List, ◌++◌, append-nil}
 use mathlib.Core.Bool.{Bool, true, false, cond, not}
 use Prim.Native.Nat.{ℕ, ◌+◌, ◌<◌, ◌≤◌, ◌^◌, ◌%◌}
 use native.Mathlib.Omega.{arith}
@@ -12,7 +12,6 @@ use Rattle.octets.specs.Octets.{little, little_of, part, put}
 use Rattle.octets.proofs.Numbers.{little-back}
 use Rattle.octets.proofs.Parts.{part_length}
 use Rattle.octets.proofs.Puts.{put-start}
-use Rattle.address.specs.declared.SenderRange.{SenderRange}
 use Rattle.timing.specs.declared.Timing.{Timing}
 use Rattle.session.specs.declared.Listener.{Listener}
 use Rattle.session.specs.declared.Session.{Session}

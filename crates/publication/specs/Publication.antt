@@ -1,9 +1,7 @@
 -- A push publication: when it is due, and what a sending leaves.
-use Rattle.std.specs.Prelude.{◌≡◌, ℕ, ◌+◌, ◌%◌, ◌^◌, Bool, not, ◌||◌, List, ◌∷◌, length, ◌==◌}
+use Rattle.std.specs.Prelude.{◌≡◌, ℕ, ◌+◌, ◌%◌, ◌^◌, Bool, not, ◌||◌, List, ◌∷◌, ◌==◌}
 use Rattle.refusal.specs.Refusal.{Check, ◌when◌, after, not_due}
 use Rattle.timing.specs.Timing.{passed}
-use Rattle.telegram.specs.declared.Common.{Common}
-use Rattle.telegram.specs.declared.Written.{Written}
 use Rattle.telegram.specs.Telegram.{Wrote}
 use Rattle.pd.specs.declared.PdHeader.{PdHeader}
 use Rattle.pd.specs.Pd.{write_checks_pd, frame_of}

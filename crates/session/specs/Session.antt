@@ -2,7 +2,6 @@
 use Rattle.std.specs.Prelude.{ℕ, Bool, true, false, cond, not, ◌&&◌, ◌||◌, List, eqb, ℤ, pos, negsuc, replicate}
 use Rattle.md.specs.Uri.{equal}
 use Rattle.timing.specs.Timing.{time_up}
-use Rattle.timing.specs.declared.Timing.{Timing}
 use Rattle.session.specs.declared.Session.{Session}
 use Rattle.session.specs.declared.SessionState.{SessionState}
 use Rattle.session.specs.declared.Waits.{Waits}

@@ -1,5 +1,5 @@
 -- One subscription's record. Document 01, Subscriptions.
-use Rattle.std.specs.Prelude.{ℕ, zero, suc, ◌+◌, ◌-◌, ◌%◌, ◌^◌, Bool, true, false, cond, not, ◌&&◌, ◌||◌, ◌==◌, nat_le, nat_lt}
+use Rattle.std.specs.Prelude.{ℕ, zero, suc, ◌+◌, ◌-◌, ◌%◌, ◌^◌, Bool, not, ◌&&◌, ◌||◌, ◌==◌, nat_le, nat_lt}
 use Rattle.address.specs.SenderRange.{reversed, admits, same}
 use Rattle.timing.specs.Timing.{time_up}
 use Rattle.subscription.specs.declared.Filter.{Filter}

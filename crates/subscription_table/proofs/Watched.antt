@@ -13,7 +13,7 @@ use Rattle.subscription.specs.Record.{matches, unsound}
 use Rattle.subscription.specs.declared.Heard.{Heard}
 use Rattle.tables.specs.Lists.{any, count, lowest, grant, at_slot}
 use Rattle.tables.specs.Trace.{run}
-use Rattle.tables.specs.Watch.{watched, told, step_if, answer_if, watched_alone}
+use Rattle.tables.specs.Watch.{step_if, answer_if}
 use Rattle.subscription_table.specs.Slot.{Judged, refusal, passed, judged, Request, slot_octets}
 use Rattle.subscription_table.specs.Table.{Call, subscribe, unsubscribe, telegram, time_check, read, Answer, granted, freed, refused, early, delivered_to, slots, Table, fits, step, empty_table}
 use Rattle.subscription_table.specs.Alone.{Fed, arrived, checked, asked, Slot, free, held, alone, only, joined, is_free, granted_same, reached, feed, changes, beside, refusing}

@@ -1,12 +1,12 @@
 -- The law of a slot watched in a larger state: it is seen as the slot alone, since calls of other tables leave its table as it is.
-use mathlib.Core.Path.{◌≡◌, refl, sym, ap, ◌∙◌}
+use mathlib.Core.Path.{◌≡◌, refl, ap, ◌∙◌}
 use mathlib.Core.Logic.{◌⊎◌, inl, inr}
 use mathlib.Core.Bool.{Bool, true, false, cond}
 use mathlib.Core.List.{List, [], ◌∷◌}
 use mathlib.Core.Option.{Option, none, some}
 use Rattle.tables.specs.Trace.{Outcome, run}
 use Rattle.tables.specs.Watch.{Watch, watched, told, step_if, answer_if, watched_alone}
-use Rattle.tables.specs.View.{View, mapped, fed_of, heard_of, gave1_of, viewed}
+use Rattle.tables.specs.View.{View, mapped, gave1_of, viewed}
 use Rattle.tables.proofs.Watch.{Follows, seen, feeds, same-watch}
 
 module _ {C A T D B S : Type 0} (v : View C A T D B S) (step : D → S → Outcome B S) (own : C → T → Outcome A T) where

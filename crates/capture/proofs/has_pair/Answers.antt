@@ -6,7 +6,6 @@ use Prim.Native.Nat.{ℕ}
 use lib.ListN.{get_or}
 use borrow.Author.Tests.{eq-eqb, ne_eqb}
 use Rattle.capture.specs.Frame.{digits_at, space_at}
-use borrow.Author.Rules.{rules}
 use Rattle.capture.proofs.has_pair.Goals as goal
 
 pub returns-then-s-eq32 : goal.returns-then-s-eq32

@@ -5,7 +5,6 @@ use Prim.Native.Nat.{ℕ, ◌%◌}
 use native.Mathlib.Omega.{arith}
 use lib.ListN.{length}
 use borrow.Author.Tests.{eq-eqb, ne_eqb, le-leb, lt-leb}
-use borrow.Author.Rules.{rules}
 use Rattle.capture.proofs.is_datagram.Goals as goal
 
 pub returns-then-is_long : goal.returns-then-is_long

@@ -8,7 +8,6 @@ use lib.ListN.{get_or}
 use borrow.Author.Tests.{eq-eqb, ne_eqb}
 use Rattle.capture.specs.Frame.{space_at, digits_at, has_pair, is_datagram}
 use Rattle.capture.proofs.Frames.{short, rest}
-use borrow.Author.Rules.{rules}
 use Rattle.capture.proofs.is_frame.Goals as goal
 
 pub returns-then-s-lt35 : goal.returns-then-s-lt35

@@ -10,7 +10,6 @@ use Rattle.hexadecimal.specs.Hex.{octets_of}
 use Rattle.capture.specs.Frame.{is_frame, datagram_of}
 use Rattle.hexadecimal.proofs.Digits.{octets-length}
 use Rattle.capture.proofs.Frames.{whole, rest}
-use borrow.Author.Rules.{rules}
 use Rattle.capture.proofs.read_frame.Goals as goal
 
 pub slice_bounds-decode-count : goal.slice_bounds-decode-count

@@ -6,7 +6,6 @@ use Prim.Native.Nat.{ℕ}
 use native.Mathlib.Omega.{arith}
 use Rattle.capture.specs.Frame.{is_head}
 use Rattle.capture.proofs.Frames.{head}
-use borrow.Author.Rules.{rules}
 use Rattle.capture.proofs.read_head.Goals as goal
 
 pub word_at-requires : goal.word_at-requires

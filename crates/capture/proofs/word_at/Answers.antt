@@ -1,6 +1,5 @@
 -- 8 digits fit 32 bits.
 use mathlib.Core.Path.{◌≡◌, ap, ◌∙◌}
-use mathlib.Core.List.{List}
 use Prim.Native.Nat.{ℕ, ◌+◌, ◌-◌, ◌≤◌}
 use native.Mathlib.Nat.{add-sub_cancel_left}
 use native.Mathlib.Omega.{arith}
@@ -9,7 +8,6 @@ use Rattle.octets.specs.Octets.{part}
 use Rattle.hexadecimal.specs.Hex.{number}
 use Rattle.capture.specs.Frame.{number_at}
 use Rattle.capture.proofs.Frames.{word_fits}
-use borrow.Author.Rules.{rules}
 use Rattle.capture.proofs.word_at.Goals as goal
 
 pub number-requires : goal.number-requires

@@ -1,12 +1,11 @@
 -- Before each turn the register over s is that over the octets left, begun at c; a turn takes eight octets as two numbers.
 use mathlib.Core.List.{List}
-use mathlib.Core.Path.{◌≡◌, sym, ◌∙◌}
-use Prim.Native.Nat.{ℕ, ◌≤◌, ◌-◌, ◌+◌, ◌%◌}
+use mathlib.Core.Path.{sym, ◌∙◌}
+use Prim.Native.Nat.{ℕ, ◌≤◌, ◌+◌}
 use native.Mathlib.Omega.{arith}
 use borrow.Author.Rules.{rules}
-use lib.ListN.{length, drop}
+use lib.ListN.{length}
 use Rattle.octets.specs.Octets.{Octets}
-use Rattle.fcs.specs.Fcs.{register}
 use Rattle.fcs.proofs.Turns.{turned-eight, turned-all}
 use Rattle.fcs.proofs.by_eights.Goals as goal
 

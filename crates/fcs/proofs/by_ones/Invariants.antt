@@ -1,11 +1,8 @@
 -- Before each turn the register over s is that over the octets left, begun at c.
-use mathlib.Core.List.{List}
-use mathlib.Core.Path.{◌≡◌, sym, ◌∙◌}
-use Prim.Native.Nat.{ℕ, ◌≤◌, ◌-◌}
-use borrow.Author.Rules.{rules}
+use mathlib.Core.Path.{◌≡◌}
+use Prim.Native.Nat.{◌≤◌, ◌-◌}
 use lib.ListN.{length, drop}
 use Rattle.fcs.specs.Fcs.{register}
-use Rattle.fcs.proofs.Turns.{turned-one, turned-all}
 use Rattle.fcs.proofs.by_ones.Given as goal
 
 abbrev pub invariant-loop-i : goal.invariant-loop-i

@@ -2,7 +2,6 @@
 use Rattle.fcs.specs.Fcs.{crc32}
 use mathlib.Core.Path.{ap}
 use Prim.Native.Nat.{ℕ, ◌-◌}
-use borrow.Author.Rules.{rules}
 use Rattle.fcs.proofs.frame_check.Goals as goal
 
 pub returns : goal.returns

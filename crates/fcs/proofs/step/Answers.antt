@@ -3,7 +3,6 @@ use mathlib.Core.Path.{ap₂, ◌∙◌}
 use Prim.Native.Nat.{ℕ, ◌/◌}
 use lib.Bits.{bit_xor}
 use Rattle.fcs.proofs.Halves.{by_two}
-use borrow.Author.Rules.{rules}
 use Rattle.fcs.proofs.step.Goals as goal
 
 pub returns : goal.returns

@@ -7,7 +7,6 @@ use lib.ListN.{length, take}
 use lib.Seq.{length-take-le}
 use Rattle.fcs.specs.Fcs.{register}
 use Rattle.fcs.proofs.Joined.{register-split, part-behind}
-use borrow.Author.Rules.{rules}
 use Rattle.fcs.proofs.update.Goals as goal
 
 -- the whole eights are as many octets as their number says

@@ -1,14 +1,9 @@
 -- The loop's invariant: the target's first i octets are those that the digits write.
-use mathlib.Core.Path.{◌≡◌, refl, sym, ap₂, ◌∙◌}
-use Prim.Native.Nat.{ℕ, ◌+◌, ◌*◌, ◌-◌, ◌/◌, ◌<◌, ◌≤◌}
-use native.Mathlib.Omega.{arith}
-use mathlib.Core.List.{List}
-use lib.ListN.{length, get_or, set, length-set}
-use Rattle.octets.proofs.Parts.{over, over-more}
+use mathlib.Core.Path.{◌≡◌}
+use Prim.Native.Nat.{◌-◌, ◌/◌, ◌≤◌}
+use lib.ListN.{length}
+use Rattle.octets.proofs.Parts.{over}
 use Rattle.hexadecimal.specs.Hex.{octets_of}
-use Rattle.hexadecimal.proofs.Written.{put-over}
-use Rattle.hexadecimal.proofs.Digits.{hex-at, octets-at, octets-length}
-use borrow.Author.Rules.{rules}
 use Rattle.hexadecimal.proofs.decode.Given as goal
 
 abbrev pub invariant-loop-i : goal.invariant-loop-i

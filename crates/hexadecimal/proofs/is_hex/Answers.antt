@@ -1,14 +1,13 @@
 -- The loop's invariant: all of the list is hexadecimal where the worst value so far is a digit's and what is left is hexadecimal.
 use mathlib.Core.Path.{◌≡◌, refl, ap, ◌∙◌}
-use Prim.Native.Nat.{ℕ, ◌+◌, ◌-◌, ◌≤◌, max}
+use Prim.Native.Nat.{ℕ, ◌+◌, max}
 use native.Mathlib.Omega.{arith}
 use mathlib.Core.Bool.{◌&&◌}
 use lib.Dec.{ltb}
 use mathlib.Core.List.{List}
-use lib.ListN.{length, get_or, drop}
+use lib.ListN.{get_or, drop}
 use Rattle.hexadecimal.specs.Hex.{digit, is_hex}
 use Rattle.hexadecimal.proofs.Digits.{hex-more, hex-all}
-use borrow.Author.Rules.{rules}
 use Rattle.hexadecimal.proofs.is_hex.Goals as goal
 
 pub loop-i-init : goal.loop-i-init

@@ -1,13 +1,9 @@
 -- The loop's invariant: the number begun so far, carried on over the digits that are left, is the whole number, and is below 16 for each digit read.
-use mathlib.Core.Path.{◌≡◌, refl, ap, ◌∙◌}
-use Prim.Native.Nat.{ℕ, ◌+◌, ◌*◌, ◌-◌, ◌^◌, ◌<◌, ◌≤◌}
-use native.Mathlib.Omega.{arith}
+use mathlib.Core.Path.{◌≡◌}
+use Prim.Native.Nat.{◌-◌, ◌^◌, ◌<◌, ◌≤◌}
 use mathlib.Core.Bool.{true}
-use mathlib.Core.List.{List}
-use lib.ListN.{length, get_or, drop}
-use Rattle.hexadecimal.specs.Hex.{digit, is_hex, number}
-use Rattle.hexadecimal.proofs.Digits.{hex-at, number_more, number-all, digit-more, digit-fits}
-use borrow.Author.Rules.{rules}
+use lib.ListN.{length, drop}
+use Rattle.hexadecimal.specs.Hex.{is_hex, number}
 use Rattle.hexadecimal.proofs.number.Given as goal
 
 abbrev pub invariant-loop-i : goal.invariant-loop-i

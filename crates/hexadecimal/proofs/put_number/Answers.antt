@@ -1,13 +1,12 @@
 -- The loop's invariant: writing the digits that are left completes the writing of all.
 use mathlib.Core.Path.{◌≡◌, refl, sym, ap, ◌∙◌}
-use Prim.Native.Nat.{ℕ, suc, ◌+◌, ◌-◌, ◌/◌, ◌≤◌}
+use Prim.Native.Nat.{ℕ, suc, ◌+◌, ◌-◌, ◌/◌}
 use native.Mathlib.Omega.{arith}
-use lib.ListN.{length, set, length-set}
+use lib.ListN.{set, length-set}
 use Rattle.octets.specs.Octets.{put}
 use Rattle.octets.proofs.Halves.{put-nil}
 use Rattle.hexadecimal.specs.Hex.{digits_of}
 use Rattle.hexadecimal.proofs.Written.{digits_more}
-use borrow.Author.Rules.{rules}
 use Rattle.hexadecimal.proofs.put_number.Goals as goal
 
 pub loop-i-init : goal.loop-i-init

@@ -1,13 +1,9 @@
 -- The loop's invariant: writing the digits that are left completes the writing of all.
-use mathlib.Core.Path.{◌≡◌, refl, sym, ap, ◌∙◌}
-use Prim.Native.Nat.{ℕ, suc, ◌+◌, ◌-◌, ◌/◌, ◌≤◌}
-use native.Mathlib.Omega.{arith}
-use lib.ListN.{length, set, length-set}
+use mathlib.Core.Path.{◌≡◌}
+use Prim.Native.Nat.{◌≤◌}
+use lib.ListN.{length}
 use Rattle.octets.specs.Octets.{put}
-use Rattle.octets.proofs.Halves.{put-nil}
 use Rattle.hexadecimal.specs.Hex.{digits_of}
-use Rattle.hexadecimal.proofs.Written.{digits_more}
-use borrow.Author.Rules.{rules}
 use Rattle.hexadecimal.proofs.put_number.Given as goal
 
 abbrev pub invariant-loop-i : goal.invariant-loop-i

@@ -1,14 +1,13 @@
 -- The loop's invariant: writing the octets that are left completes the writing of all.
-use mathlib.Core.Path.{◌≡◌, refl, sym, ap, ap₂, ◌∙◌}
-use Prim.Native.Nat.{ℕ, ◌+◌, ◌*◌, ◌-◌, ◌≤◌}
+use mathlib.Core.Path.{refl, sym, ap, ap₂, ◌∙◌}
+use Prim.Native.Nat.{ℕ, ◌+◌}
 use native.Mathlib.Omega.{arith}
 use mathlib.Core.List.{List}
-use lib.ListN.{length, drop, set, length-set, drop_of_length-le}
+use lib.ListN.{drop, set, length-set, drop_of_length-le}
 use Rattle.octets.specs.Octets.{put}
 use Rattle.octets.proofs.Halves.{put-nil}
 use Rattle.hexadecimal.specs.Hex.{hex_of}
 use Rattle.hexadecimal.proofs.Written.{hex-more}
-use borrow.Author.Rules.{rules}
 use Rattle.hexadecimal.proofs.put_octets.Goals as goal
 
 pub loop-i-init : goal.loop-i-init

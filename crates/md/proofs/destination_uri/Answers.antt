@@ -2,7 +2,6 @@
 use native.Mathlib.Omega.{arith}
 use lib.ListN.{length}
 use borrow.Author.Tests.{le-leb, lt-leb}
-use borrow.Author.Rules.{rules}
 use Rattle.md.proofs.destination_uri.Goals as goal
 
 pub returns-then-d-lt112 : goal.returns-then-d-lt112

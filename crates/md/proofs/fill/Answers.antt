@@ -4,7 +4,6 @@ use mathlib.Core.Path.{◌≡◌}
 use Prim.Native.Nat.{ℕ}
 use native.Mathlib.Omega.{arith}
 use lib.ListN.{length}
-use borrow.Author.Rules.{rules}
 use Rattle.md.specs.Md.{front_of}
 use Rattle.telegram.proofs.Finished.{length-telegram, finished}
 use Rattle.octets.proofs.Puts.{begun}

@@ -2,7 +2,6 @@
 use mathlib.Core.Path.{◌≡◌, refl, ap, ◌∙◌}
 use Prim.Native.Nat.{ℕ, ◌+◌}
 use lib.ListN.{length}
-use borrow.Author.Rules.{rules}
 use Rattle.md.proofs.Fronts.{front_length}
 use Rattle.telegram.specs.Telegram.{common_octets}
 use Rattle.octets.proofs.Puts.{none, next}

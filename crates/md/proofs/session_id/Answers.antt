@@ -2,7 +2,6 @@
 use native.Mathlib.Omega.{arith}
 use lib.ListN.{length}
 use borrow.Author.Tests.{le-leb, lt-leb}
-use borrow.Author.Rules.{rules}
 use Rattle.md.proofs.session_id.Goals as goal
 
 pub returns-then-d-lt44 : goal.returns-then-d-lt44

@@ -1,6 +1,5 @@
 -- A header that passes its checks is taken, one that does not is refused.
 use mathlib.Core.Path.{sym, ◌∙◌}
-use borrow.Author.Rules.{rules}
 use Rattle.md.specs.Md.{header_of}
 use Rattle.md.specs.declared.MdTaken.TheVariants.{Header, Refused}
 use Rattle.telegram.proofs.Reading.{sound}

@@ -3,7 +3,6 @@ use mathlib.Core.Bool.{Bool}
 use mathlib.Core.Path.{◌≡◌, sym, ap, ◌∙◌}
 use Prim.Native.Nat.{ℕ}
 use lib.ListN.{length}
-use borrow.Author.Rules.{rules}
 use Rattle.md.specs.Md.{frame_of, write_checks_md}
 use Rattle.telegram.proofs.Writing.{granted, refuses, writes}
 use Rattle.telegram.specs.declared.Family.TheVariants as family

@@ -1,11 +1,10 @@
 -- The loop's invariant: the target's first i octets are zeros.
 use mathlib.Core.Path.{◌≡◌, refl, sym, ap₂, ◌∙◌}
 use mathlib.Core.List.{List}
-use Prim.Native.Nat.{ℕ, ◌≤◌, ◌<◌, ◌-◌}
+use Prim.Native.Nat.{ℕ, ◌<◌}
 use native.Mathlib.Omega.{arith}
 use lib.ListN.{length, set, replicate, length-set, length-replicate, get_or-replicate}
-use borrow.Author.Rules.{rules}
-use Rattle.octets.proofs.Parts.{over, over-more, over-all}
+use Rattle.octets.proofs.Parts.{over-more, over-all}
 use Rattle.octets.proofs.clear.Goals as goal
 
 pub loop-i-init : goal.loop-i-init

@@ -2,7 +2,6 @@
 use mathlib.Core.List.{append_assoc}
 use native.Mathlib.Nat.{add-sub_cancel_left}
 use lib.Seq.{drop-drop}
-use borrow.Author.Rules.{rules}
 use Rattle.octets.proofs.copy_into.Goals as goal
 
 pub returns : goal.returns

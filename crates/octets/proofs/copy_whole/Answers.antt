@@ -1,11 +1,10 @@
 -- The loop's invariant: the target's first i octets are the source's.
-use mathlib.Core.Path.{◌≡◌, refl, ap, ◌∙◌}
+use mathlib.Core.Path.{refl, ap, ◌∙◌}
 use mathlib.Core.List.{List}
-use Prim.Native.Nat.{ℕ, ◌≤◌, ◌-◌}
+use Prim.Native.Nat.{ℕ}
 use native.Mathlib.Omega.{arith}
-use lib.ListN.{length, get_or, set, length-set}
-use borrow.Author.Rules.{rules}
-use Rattle.octets.proofs.Parts.{over, over-more, over-all}
+use lib.ListN.{get_or, set, length-set}
+use Rattle.octets.proofs.Parts.{over-more, over-all}
 use Rattle.octets.proofs.copy_whole.Goals as goal
 
 pub loop-i-init : goal.loop-i-init

@@ -1,11 +1,8 @@
 -- The loop's invariant: the target's first i octets are the source's.
-use mathlib.Core.Path.{◌≡◌, refl, ap, ◌∙◌}
-use mathlib.Core.List.{List}
-use Prim.Native.Nat.{ℕ, ◌≤◌, ◌-◌}
-use native.Mathlib.Omega.{arith}
-use lib.ListN.{length, get_or, set, length-set}
-use borrow.Author.Rules.{rules}
-use Rattle.octets.proofs.Parts.{over, over-more, over-all}
+use mathlib.Core.Path.{◌≡◌}
+use Prim.Native.Nat.{◌≤◌, ◌-◌}
+use lib.ListN.{length}
+use Rattle.octets.proofs.Parts.{over}
 use Rattle.octets.proofs.copy_whole.Given as goal
 
 abbrev pub invariant-loop-i : goal.invariant-loop-i

@@ -1,7 +1,6 @@
 -- The four octets of the lower half are read, then those of the upper.
 use native.Mathlib.Omega.{arith}
 use Rattle.octets.proofs.Halves.{little-two}
-use borrow.Author.Rules.{rules}
 use Rattle.octets.proofs.little8.Goals as goal
 
 pub returns : goal.returns

@@ -4,7 +4,6 @@ use Prim.Native.Nat.{ℕ, ◌+◌, ◌*◌, ◌/◌, ◌%◌}
 use native.Mathlib.Omega.{arith}
 use Rattle.octets.specs.Octets.{little_of, put}
 use Rattle.octets.proofs.Halves.{put-little-two}
-use borrow.Author.Rules.{rules}
 use Rattle.octets.proofs.put_little8.Goals as goal
 
 pub returns : goal.returns

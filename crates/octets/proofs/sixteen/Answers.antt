@@ -1,6 +1,5 @@
 -- An array of sixteen octets becomes the part.
 use native.Mathlib.Nat.{add-sub_cancel_left}
-use borrow.Author.Rules.{rules}
 use Rattle.octets.proofs.sixteen.Goals as goal
 
 pub returns : goal.returns

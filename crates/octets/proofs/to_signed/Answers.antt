@@ -1,7 +1,6 @@
 -- Below 2 ^ 31 the bits are the number; above, the complement of the complement is.
 use Prim.Native.Nat.{◌-◌}
 use native.Mathlib.Omega.{arith}
-use borrow.Author.Rules.{rules}
 use Rattle.octets.proofs.Signed.{read_low, read-high}
 use Rattle.octets.proofs.to_signed.Goals as goal
 

@@ -1,6 +1,5 @@
 -- The tests go through the numbers.
 use borrow.Author.Tests.{eq-eqb, ne_eqb}
-use borrow.Author.Rules.{rules}
 use Rattle.packed.proofs.state_of.Goals as goal
 
 pub returns-then-n-eq1 : goal.returns-then-n-eq1

@@ -3,7 +3,6 @@ use mathlib.Core.Path.{refl}
 use native.Mathlib.Nat.{add-sub_cancel_left}
 use lib.ListN.{replicate}
 use Rattle.packed.proofs.Records.{put_whole}
-use borrow.Author.Rules.{rules}
 use Rattle.packed.proofs.thirty_two.Goals as goal
 
 pub returns : goal.returns

@@ -3,7 +3,6 @@ use mathlib.Core.List.{List}
 use mathlib.Core.Path.{refl}
 use Prim.Native.Nat.{ℕ}
 use lib.ListN.{length}
-use borrow.Author.Rules.{rules}
 use Rattle.telegram.specs.Telegram.{common_octets}
 use Rattle.telegram.proofs.Finished.{finished}
 use Rattle.octets.proofs.Puts.{none, next}

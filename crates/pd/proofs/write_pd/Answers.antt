@@ -3,7 +3,6 @@ use mathlib.Core.Bool.{true}
 use mathlib.Core.Path.{sym, ◌∙◌}
 use native.Mathlib.Omega.{arith}
 use lib.ListN.{length}
-use borrow.Author.Rules.{rules}
 use Rattle.pd.specs.Pd.{front_of, frame_of}
 use Rattle.telegram.proofs.Finished.{length-telegram}
 use Rattle.telegram.proofs.Writing.{granted, refuses, writes}

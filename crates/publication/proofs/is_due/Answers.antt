@@ -1,5 +1,5 @@
 -- The first sending is due at once, a later one when a cycle has passed since the last.
-use Rattle.std.proofs.Common.{rules, eq-eqb, ne_eqb}
+use Rattle.std.proofs.Common.{eq-eqb, ne_eqb}
 use Rattle.publication.proofs.is_due.Goals as goal
 
 pub returns-then-p-ne0 : goal.returns-then-p-ne0

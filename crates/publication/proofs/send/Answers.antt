@@ -1,5 +1,5 @@
 -- A sending that is not due is refused with 14; one that is due goes through the writer, and only what was written moves the record.
-use Rattle.std.proofs.Common.{sym, ◌∙◌, rules}
+use Rattle.std.proofs.Common.{sym, ◌∙◌}
 use Rattle.publication.proofs.Sending.{not-due, refused, sent}
 use Rattle.publication.proofs.send.Goals as goal
 

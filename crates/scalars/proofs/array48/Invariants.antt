@@ -1,13 +1,10 @@
 -- The loop's invariant: what is left of the array, written at q, makes the target what the whole array makes it.
-use mathlib.Core.Path.{◌≡◌, refl, sym, ap, ◌∙◌}
+use mathlib.Core.Path.{◌≡◌}
 use mathlib.Core.List.{[], ◌∷◌}
-use Prim.Native.Nat.{ℕ, ◌+◌, ◌-◌, ◌*◌, ◌≤◌}
-use native.Mathlib.Nat.{sub-zero}
-use native.Mathlib.Omega.{arith}
+use Prim.Native.Nat.{◌+◌, ◌-◌, ◌*◌, ◌≤◌}
 use lib.ListN.{length}
 use Rattle.octets.specs.Octets.{put}
 use Rattle.scalars.specs.Scalars.{array_at}
-use Rattle.scalars.proofs.Arrays.{array-more, array-end, turned_two}
 use Rattle.scalars.proofs.array48.Given as goal
 
 abbrev pub invariant-loop-i : goal.invariant-loop-i

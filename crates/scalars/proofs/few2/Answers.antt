@@ -1,10 +1,9 @@
 -- The loop's invariant: what is left of the array, written at q, makes the target what the whole array makes it.
-use mathlib.Core.Path.{◌≡◌, refl, sym, ap, ◌∙◌}
+use mathlib.Core.Path.{refl, sym, ap, ◌∙◌}
 use mathlib.Core.List.{[], ◌∷◌}
-use Prim.Native.Nat.{ℕ, ◌+◌, ◌-◌, ◌*◌, ◌≤◌}
+use Prim.Native.Nat.{ℕ}
 use native.Mathlib.Nat.{sub-zero}
 use native.Mathlib.Omega.{arith}
-use lib.ListN.{length}
 use Rattle.octets.specs.Octets.{put}
 use Rattle.scalars.specs.Scalars.{array_at}
 use Rattle.scalars.proofs.Arrays.{array-more, array-end, turned-one}

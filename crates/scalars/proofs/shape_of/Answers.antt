@@ -1,6 +1,5 @@
 -- At each arm the type is known; what no arm names has no parts.
 use mathlib.Core.Path.{sym}
-use borrow.Author.Rules.{rules}
 use Rattle.octets.proofs.Arms.{reaches}
 use Rattle.scalars.proofs.Shapes.{no-type}
 use Rattle.scalars.proofs.shape_of.Goals as goal

@@ -1,7 +1,6 @@
 -- At each arm the shape is known; what no arm names has no parts.
 use mathlib.Core.Path.{sym, ap}
 use Rattle.scalars.specs.Scalars.{size}
-use borrow.Author.Rules.{rules}
 use Rattle.octets.proofs.Arms.{reaches}
 use Rattle.scalars.proofs.Shapes.{no-shape}
 use Rattle.scalars.proofs.size_of.Goals as goal

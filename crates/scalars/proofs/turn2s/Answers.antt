@@ -2,7 +2,6 @@
 use mathlib.Core.List.{[], ◌∷◌}
 use native.Mathlib.Omega.{arith}
 use Rattle.scalars.proofs.Arrays.{turned-behind}
-use borrow.Author.Rules.{rules}
 use Rattle.scalars.proofs.turn2s.Goals as goal
 
 pub returns : goal.returns

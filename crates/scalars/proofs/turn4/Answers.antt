@@ -3,7 +3,6 @@ use mathlib.Core.Path.{ap, ◌∙◌}
 use mathlib.Core.List.{List, reverse}
 use Prim.Native.Nat.{ℕ}
 use Rattle.octets.specs.Octets.{put}
-use borrow.Author.Rules.{rules}
 use Rattle.scalars.proofs.turn4.Goals as goal
 
 pub returns : goal.returns

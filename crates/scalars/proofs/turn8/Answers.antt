@@ -5,7 +5,6 @@ use Prim.Native.Nat.{ℕ, ◌+◌}
 use native.Mathlib.Omega.{arith}
 use Rattle.octets.specs.Octets.{put}
 use Rattle.scalars.proofs.Arrays.{halves-turned}
-use borrow.Author.Rules.{rules}
 use Rattle.scalars.proofs.turn8.Goals as goal
 
 pub returns : goal.returns

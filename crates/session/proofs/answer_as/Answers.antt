@@ -1,5 +1,4 @@
 use borrow.Author.Tests.{eq-eqb, ne_eqb}
-use borrow.Author.Rules.{rules}
 use Rattle.session.proofs.answer_as.Goals as goal
 
 pub returns-then-msg_type-eq-MP : goal.returns-then-msg_type-eq-MP

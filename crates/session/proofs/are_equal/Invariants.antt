@@ -1,10 +1,7 @@
 -- The loop's invariant: the identifiers are equal exactly where they are from i on.
-use mathlib.Core.Path.{◌≡◌, refl, sym, ◌∙◌}
+use mathlib.Core.Path.{◌≡◌}
 use Prim.Native.Nat.{◌≤◌, ◌-◌}
-use native.Mathlib.Omega.{arith}
 use lib.ListN.{length, drop}
-use borrow.Author.Rules.{rules}
-use Rattle.session.proofs.Compared.{equal-differ, equal_next, equal-end}
 use Rattle.md.specs.Uri.{equal}
 use Rattle.session.proofs.are_equal.Given as goal
 

@@ -1,5 +1,4 @@
 -- A session of the identifier is asked what it waits for.
-use borrow.Author.Rules.{rules}
 use Rattle.session.proofs.can_take.Goals as goal
 
 pub returns-then-is_session : goal.returns-then-is_session

@@ -1,6 +1,5 @@
 -- The tests of the filter are met one after the other.
 use borrow.Author.Tests.{eq-eqb, ne_eqb}
-use borrow.Author.Rules.{rules}
 use Rattle.session.proofs.is_heard.Goals as goal
 
 pub returns-then-is_empty : goal.returns-then-is_empty

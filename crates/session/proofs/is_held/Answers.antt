@@ -1,6 +1,5 @@
 -- The fields are compared one after the other.
 use borrow.Author.Tests.{eq-eqb, ne_eqb}
-use borrow.Author.Rules.{rules}
 use Rattle.session.proofs.is_held.Goals as goal
 
 pub returns-then-are_same : goal.returns-then-are_same

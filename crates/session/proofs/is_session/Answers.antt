@@ -1,5 +1,4 @@
 -- A session in use is asked for its identifier.
-use borrow.Author.Rules.{rules}
 use Rattle.session.specs.Session.{has}
 use Rattle.session.proofs.is_session.Goals as goal
 

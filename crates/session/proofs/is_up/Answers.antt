@@ -1,5 +1,4 @@
 -- Each waiting state is asked for its timing.
-use borrow.Author.Rules.{rules}
 use Rattle.session.proofs.is_up.Goals as goal
 
 pub returns-in-WaitingForReply : goal.returns-in-WaitingForReply

@@ -1,5 +1,4 @@
 -- Each case asks what it is named for.
-use borrow.Author.Rules.{rules}
 use Rattle.session_table.proofs.is_sought.Goals as goal
 
 pub returns-in-InUse : goal.returns-in-InUse

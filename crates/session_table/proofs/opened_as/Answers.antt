@@ -1,6 +1,5 @@
 -- Each place has its answer.
 use mathlib.Core.Path.{sym, ap}
-use borrow.Author.Rules.{rules}
 use Rattle.refusal.specs.Refusal.{no_free_session}
 use Rattle.session_table.specs.Table.{opened, refused_plain}
 use Rattle.session_table.specs.Calls.{place_answer}

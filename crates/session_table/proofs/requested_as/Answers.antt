@@ -2,7 +2,6 @@
 use mathlib.Core.Path.{sym, ap}
 use Rattle.session_table.specs.Table.{requested, all_in_use}
 use Rattle.session_table.specs.Calls.{place_answer}
-use borrow.Author.Rules.{rules}
 use Rattle.session_table.proofs.requested_as.Goals as goal
 
 pub returns-in-Slot : goal.returns-in-Slot

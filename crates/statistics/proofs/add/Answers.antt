@@ -1,5 +1,4 @@
 -- Each family has its own counters.
-use Rattle.std.proofs.Common.{rules}
 use Rattle.statistics.proofs.add.Goals as goal
 
 pub returns-in-Pd : goal.returns-in-Pd

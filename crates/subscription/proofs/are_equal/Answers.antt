@@ -1,5 +1,5 @@
 -- The fields are compared one after the other.
-use Rattle.std.proofs.Common.{rules, eq-eqb, ne_eqb}
+use Rattle.std.proofs.Common.{eq-eqb, ne_eqb}
 use Rattle.subscription.specs.Record.{equal}
 use Rattle.subscription.proofs.are_equal.Goals as goal
 

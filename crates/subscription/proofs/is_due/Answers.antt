@@ -1,5 +1,5 @@
 -- A slot in use that is not marked is asked for its time.
-use Rattle.std.proofs.Common.{rules, le-ltb, lt-ltb, eq-eqb, ne_eqb}
+use Rattle.std.proofs.Common.{le-ltb, lt-ltb, eq-eqb, ne_eqb}
 use Rattle.subscription.proofs.is_due.Goals as goal
 
 pub returns-then-r-gt1 : goal.returns-then-r-gt1

@@ -1,5 +1,5 @@
 -- The tests of the filter are met one after the other.
-use Rattle.std.proofs.Common.{rules, eq-eqb, ne_eqb}
+use Rattle.std.proofs.Common.{eq-eqb, ne_eqb}
 use Rattle.subscription.specs.Record.{matches}
 use Rattle.subscription.proofs.is_match.Goals as goal
 

@@ -1,5 +1,4 @@
 -- A slot that is wanted is asked for freshness.
-use Rattle.std.proofs.Common.{rules}
 use Rattle.subscription.proofs.is_taken.Goals as goal
 
 pub returns-then-is_wanted : goal.returns-then-is_wanted

@@ -1,5 +1,4 @@
 -- The filter's range is judged.
-use Rattle.std.proofs.Common.{rules}
 use Rattle.subscription.specs.Record.{unsound}
 use Rattle.subscription.proofs.is_unsound.Goals as goal
 

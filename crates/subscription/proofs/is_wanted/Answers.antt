@@ -1,5 +1,5 @@
 -- A slot whose filter matches is asked whether it is in use.
-use Rattle.std.proofs.Common.{◌≡◌, Bool, true, false, ◌&&◌, refl, rules}
+use Rattle.std.proofs.Common.{◌≡◌, Bool, true, false, ◌&&◌, refl}
 use Rattle.subscription.specs.Record.{in_use}
 use Rattle.subscription.proofs.is_wanted.Goals as goal
 

@@ -1,5 +1,4 @@
 -- The two tests leave the states above 1.
-use Rattle.std.proofs.Common.{rules}
 use Rattle.subscription.proofs.States.{timed-out}
 use Rattle.subscription.proofs.state_of.Goals as goal
 

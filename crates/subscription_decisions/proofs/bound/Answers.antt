@@ -1,5 +1,4 @@
 -- The event decides.
-use borrow.Author.Rules.{rules}
 use Rattle.subscription_decisions.proofs.bound.Goals as goal
 
 pub returns-then-is_concerned : goal.returns-then-is_concerned

@@ -1,5 +1,4 @@
 -- The header says how long the dataset is.
-use borrow.Author.Rules.{rules}
 use Rattle.subscription_decisions.proofs.dataset_end.Goals as goal
 
 pub returns : goal.returns

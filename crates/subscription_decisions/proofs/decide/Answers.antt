@@ -1,5 +1,4 @@
 -- The first test that applies answers.
-use borrow.Author.Rules.{rules}
 use Rattle.subscription_decisions.proofs.decide.Goals as goal
 
 pub returns-then-is_unsound : goal.returns-then-is_unsound

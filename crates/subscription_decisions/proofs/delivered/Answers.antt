@@ -1,6 +1,5 @@
 -- Each answer of a sweep has its own.
 use borrow.Author.Tests.{lt-ltb, le-ltb}
-use borrow.Author.Rules.{rules}
 use Rattle.subscription_decisions.proofs.delivered.Goals as goal
 
 pub returns-then-t-gt0 : goal.returns-then-t-gt0

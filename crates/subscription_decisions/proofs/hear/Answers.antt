@@ -1,5 +1,4 @@
 -- The header says what the slots hear.
-use borrow.Author.Rules.{rules}
 use Rattle.subscription_decisions.proofs.hear.Goals as goal
 
 pub returns : goal.returns

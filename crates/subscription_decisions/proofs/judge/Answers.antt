@@ -1,7 +1,6 @@
 -- Taking the datagram apart judges 2 to 6, its header's counters 7.
 use mathlib.Core.Path.{sym, ◌∙◌, ap}
 use Rattle.subscription_decisions.proofs.Judging.{weighed, taken_refused, taken-judged}
-use borrow.Author.Rules.{rules}
 use Rattle.subscription_decisions.proofs.judge.Goals as goal
 
 pub returns-in_default : goal.returns-in_default

@@ -1,6 +1,5 @@
 -- A record in use is compared; the first free one is kept.
 use borrow.Author.Tests.{eq-eqb, ne_eqb}
-use borrow.Author.Rules.{rules}
 use Rattle.subscription_decisions.proofs.look.Goals as goal
 
 pub returns-then-are_equal : goal.returns-then-are_equal

@@ -1,5 +1,4 @@
 -- Each answer of a sweep has its own.
-use borrow.Author.Rules.{rules}
 use Rattle.subscription_decisions.proofs.marked.Goals as goal
 
 pub returns-in-Done : goal.returns-in-Done

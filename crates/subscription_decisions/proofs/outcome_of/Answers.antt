@@ -1,5 +1,4 @@
 -- Each answer has its own outcome.
-use borrow.Author.Rules.{rules}
 use Rattle.subscription_decisions.proofs.outcome_of.Goals as goal
 
 pub returns-in-Refused : goal.returns-in-Refused

@@ -1,5 +1,4 @@
 -- The part is cleared, and the record made.
-use borrow.Author.Rules.{rules}
 use Rattle.subscription_table.specs.Slot.{slot_octets}
 use Rattle.subscription_decisions.proofs.prepare.Goals as goal
 

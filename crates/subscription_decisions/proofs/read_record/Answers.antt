@@ -1,7 +1,6 @@
 -- The first test that applies answers; a record in use shows its state.
 use Prim.Native.Nat.{◌<◌, ◌≤◌}
 use native.Mathlib.Omega.{arith}
-use borrow.Author.Rules.{rules}
 use borrow.Author.Tests.{eq-eqb, ne_eqb, lt-ltb, le-ltb}
 use Rattle.subscription_table.specs.Slot.{slot_octets}
 use Rattle.subscription_decisions.proofs.read_record.Goals as goal

@@ -1,5 +1,4 @@
 -- The sizes decide.
-use borrow.Author.Rules.{rules}
 use Rattle.subscription_decisions.proofs.refusal.Goals as goal
 
 pub returns-then-is_fit : goal.returns-then-is_fit

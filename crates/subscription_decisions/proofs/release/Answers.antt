@@ -1,7 +1,6 @@
 -- A slot in use gives up its record and its part.
 use mathlib.Core.Path.{refl}
 use borrow.Author.Tests.{eq-eqb, ne_eqb}
-use borrow.Author.Rules.{rules}
 use Rattle.subscription_table.specs.Slot.{slot_octets}
 use Rattle.subscription_decisions.proofs.release.Goals as goal
 

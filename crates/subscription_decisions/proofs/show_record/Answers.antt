@@ -1,7 +1,5 @@
 -- A record that reading refuses shows nothing; any other shows what it answers.
-use mathlib.Core.Path.{sym, ◌∙◌, ap}
-use borrow.Author.Rules.{rules}
-use Rattle.subscription_decisions.specs.Read.{shown, octets_of}
+use mathlib.Core.Path.{sym, ◌∙◌}
 use Rattle.subscription_decisions.proofs.Showing.{record-shows, refused-shows}
 use Rattle.subscription_decisions.proofs.show_record.Goals as goal
 

@@ -1,6 +1,5 @@
 -- A count grows by at most one.
 use native.Mathlib.Omega.{arith}
-use borrow.Author.Rules.{rules}
 use Rattle.subscription_step.proofs.Stepping.{one-small}
 use Rattle.subscription_step.proofs.count.Goals as goal
 

@@ -2,7 +2,6 @@
 use mathlib.Core.Bool.{false}
 use mathlib.Core.Path.{refl, sym, ◌∙◌}
 use borrow.Author.Tests.{eq-eqb, ne_eqb}
-use borrow.Author.Rules.{rules}
 use Rattle.subscription_step.proofs.Stepping.{changing, staying}
 use Rattle.subscription_step.specs.declared.Event.TheVariants.{Clock}
 use Rattle.subscription_step.proofs.on_clock.Goals as goal

@@ -3,7 +3,6 @@ use mathlib.Core.Bool.{true, false}
 use mathlib.Core.Path.{◌≡◌, sym, ◌∙◌}
 use lib.ListN.{length}
 use borrow.Author.Tests.{le-leb, lt-leb}
-use borrow.Author.Rules.{rules}
 use Rattle.subscription_step.proofs.Stepping.{changing, staying}
 use Rattle.subscription_step.specs.Step.{changes}
 use Rattle.subscription_step.specs.declared.Event.TheVariants.{Telegram}

@@ -1,5 +1,4 @@
 -- Each answer is the part of one of the two slices.
-use borrow.Author.Rules.{rules}
 use Rattle.subscription_step.proofs.show.Goals as goal
 
 pub returns-then-is_substituted : goal.returns-then-is_substituted

@@ -1,5 +1,4 @@
 -- Each event has its own step.
-use borrow.Author.Rules.{rules}
 use Rattle.subscription_step.proofs.step.Goals as goal
 
 pub returns-in-Telegram : goal.returns-in-Telegram

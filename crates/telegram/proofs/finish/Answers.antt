@@ -4,7 +4,6 @@ use mathlib.Core.Path.{◌≡◌, refl, ap, ◌∙◌}
 use Prim.Native.Nat.{ℕ, ◌+◌, ◌-◌}
 use native.Mathlib.Omega.{arith}
 use lib.ListN.{length, take, length-take, replicate, length-replicate}
-use borrow.Author.Rules.{rules}
 use Rattle.fcs.specs.Fcs.{crc32}
 use Rattle.telegram.specs.Telegram.{padded}
 use Rattle.octets.proofs.Puts.{kept, next}

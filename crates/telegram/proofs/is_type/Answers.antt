@@ -1,5 +1,4 @@
 -- Each family has its own types.
-use borrow.Author.Rules.{rules}
 use Rattle.telegram.proofs.is_type.Goals as goal
 
 pub returns-in-Pd : goal.returns-in-Pd

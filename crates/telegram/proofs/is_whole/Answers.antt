@@ -1,6 +1,5 @@
 -- The length is compared with header plus padded dataset.
 use native.Mathlib.Omega.{arith}
-use borrow.Author.Rules.{rules}
 use Rattle.telegram.proofs.Families.{bounds}
 use Rattle.telegram.proofs.is_whole.Goals as goal
 

@@ -6,7 +6,6 @@ use Prim.Native.Nat.{ℕ, ◌+◌, ◌≤◌}
 use native.Mathlib.Omega.{arith}
 use lib.ListN.{length}
 use lib.Dec.{eqb}
-use borrow.Author.Rules.{rules}
 use Rattle.telegram.proofs.Reading.{sound, header-first, then-length}
 use Rattle.telegram.proofs.Families.{bounds}
 use Rattle.telegram.specs.Telegram.{header_size, dataset_limit, padded, common_of}

@@ -1,6 +1,5 @@
 -- Each return is led by the tests before it, in the order of the checks.
 use borrow.Author.Tests.{lt-ltb, le-ltb, eq-eqb, ne_eqb}
-use borrow.Author.Rules.{rules}
 use Rattle.telegram.proofs.judge_fields.Goals as goal
 
 pub returns-then-c-ne1 : goal.returns-then-c-ne1

@@ -1,7 +1,6 @@
 -- Each return is led by the tests before it, in the order of the checks.
 use native.Mathlib.Omega.{arith}
 use borrow.Author.Tests.{lt-ltb, le-ltb, eq-eqb, ne_eqb}
-use borrow.Author.Rules.{rules}
 use Rattle.telegram.proofs.Families.{bounds}
 use Rattle.telegram.proofs.judge_writing.Goals as goal
 

@@ -1,6 +1,5 @@
 -- The fields are written one behind the other.
 use mathlib.Core.Path.{refl}
-use borrow.Author.Rules.{rules}
 use Rattle.octets.proofs.Puts.{none, next}
 use Rattle.octets.specs.Octets.{big_of}
 use Rattle.telegram.proofs.put_common.Goals as goal

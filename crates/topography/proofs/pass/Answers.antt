@@ -1,5 +1,4 @@
 -- Each branch follows one of the three sentences of the rule.
-use borrow.Author.Rules.{rules}
 use Rattle.topography.proofs.pass.Goals as goal
 
 pub returns-then-is_alone : goal.returns-then-is_alone

@@ -1,11 +1,7 @@
 -- The loop's invariant: the fields bear the same URI exactly where they do from i on.
-use mathlib.Core.Path.{◌≡◌, refl, sym, ◌∙◌}
-use Prim.Native.Nat.{◌≤◌, ◌-◌}
+use mathlib.Core.Path.{refl, sym, ◌∙◌}
 use native.Mathlib.Omega.{arith}
-use lib.ListN.{length, drop}
-use borrow.Author.Rules.{rules}
 use Rattle.md.proofs.Texts.{same-differ, same_ends, same_next, same_left, same-right, same_end}
-use Rattle.md.specs.Uri.{same_uri}
 use Rattle.md.proofs.uri.are_same.Goals as goal
 
 pub loop-i-init : goal.loop-i-init

@@ -1,10 +1,7 @@
 -- The loop's invariant: the fields bear the same URI exactly where they do from i on.
-use mathlib.Core.Path.{◌≡◌, refl, sym, ◌∙◌}
+use mathlib.Core.Path.{◌≡◌}
 use Prim.Native.Nat.{◌≤◌, ◌-◌}
-use native.Mathlib.Omega.{arith}
 use lib.ListN.{length, drop}
-use borrow.Author.Rules.{rules}
-use Rattle.md.proofs.Texts.{same-differ, same_ends, same_next, same_left, same-right, same_end}
 use Rattle.md.specs.Uri.{same_uri}
 use Rattle.md.proofs.uri.are_same.Given as goal
 

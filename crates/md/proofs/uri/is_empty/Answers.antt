@@ -1,7 +1,6 @@
 -- Nothing reads as a zero octet.
 use native.Mathlib.Omega.{arith}
 use lib.ListN.{get_or-eq_default}
-use borrow.Author.Rules.{rules}
 use Rattle.md.proofs.uri.is_empty.Goals as goal
 
 pub returns-then-u-eq0 : goal.returns-then-u-eq0

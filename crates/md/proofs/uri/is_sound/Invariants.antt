@@ -1,10 +1,7 @@
 -- The loop's invariant: the field is sound exactly where it is from i on.
-use mathlib.Core.Path.{◌≡◌, refl, sym, ◌∙◌}
+use mathlib.Core.Path.{◌≡◌}
 use Prim.Native.Nat.{◌≤◌, ◌-◌}
-use native.Mathlib.Omega.{arith}
 use lib.ListN.{length, drop}
-use borrow.Author.Rules.{rules}
-use Rattle.md.proofs.Texts.{sound-here, sound-next, sound-end}
 use Rattle.md.specs.Uri.{sound}
 use Rattle.md.proofs.uri.is_sound.Given as goal
 

@@ -1,5 +1,5 @@
 -- The difference of the counters, modulo 2^32, decides where the sender is the one last taken.
-use Rattle.std.proofs.Common.{◌≡◌, arith, rules, eq-eqb, ne_eqb, le-leb}
+use Rattle.std.proofs.Common.{◌≡◌, arith, eq-eqb, ne_eqb, le-leb}
 use borrow.Author.Tests.{lt-leb}
 use Rattle.subscription.specs.Record.{fresh, ahead}
 use Rattle.subscription.proofs.LastTaken.is_fresh.Goals as goal
