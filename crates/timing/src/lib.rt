@@ -13,7 +13,6 @@ pub struct Timing {
 }
 
 // A span has passed since the start.
-#[tactic(auto, using(refusal::proofs::Tests::tests))]
 pub fn has_passed(start: u64, span: u32, now: u64) -> bool
     ensures { result ≡ passed start span now }
 {
