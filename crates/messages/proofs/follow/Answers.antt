@@ -2,26 +2,26 @@
 use Rattle.session_table.proofs.ByType.{kind-mn, kind-mr, kind-mp, kind-mq, kind-mc, kind-me}
 use Rattle.messages.proofs.follow.Goals as goal
 
-pub returns-then-m-eq-MN : goal.returns-then-m-eq-MN
-returns-then-m-eq-MN c =
-    rw (kind-mn _ c.if-m-eq-MN.true) c.notify.ensures
+pub returns-then-is_notification : goal.returns-then-is_notification
+returns-then-is_notification c =
+    rw (kind-mn _ c.if-is_notification.true) c.notify.ensures
 
 pub returns-then-m-eq-MR : goal.returns-then-m-eq-MR
 returns-then-m-eq-MR c =
-    rw (kind-mr _ c.if-m-eq-MN.false c.if-m-eq-MR.true) c.request.ensures
+    rw (kind-mr _ c.if-is_notification.false c.if-m-eq-MR.true) c.request.ensures
 
 pub returns-then-m-eq-MP : goal.returns-then-m-eq-MP
 returns-then-m-eq-MP c =
-    rw (kind-mp _ c.if-m-eq-MN.false c.if-m-eq-MR.false c.if-m-eq-MP.true) c.end_session.ensures
+    rw (kind-mp _ c.if-is_notification.false c.if-m-eq-MR.false c.if-m-eq-MP.true) c.end_session.ensures
 
 pub returns-then-m-eq-MQ : goal.returns-then-m-eq-MQ
 returns-then-m-eq-MQ c =
-    rw (kind-mq _ c.if-m-eq-MN.false c.if-m-eq-MR.false c.if-m-eq-MP.false c.if-m-eq-MQ.true) c.owe_confirm.ensures
+    rw (kind-mq _ c.if-is_notification.false c.if-m-eq-MR.false c.if-m-eq-MP.false c.if-m-eq-MQ.true) c.owe_confirm.ensures
 
 pub returns-then-m-eq-MC : goal.returns-then-m-eq-MC
 returns-then-m-eq-MC c =
-    rw (kind-mc _ c.if-m-eq-MN.false c.if-m-eq-MR.false c.if-m-eq-MP.false c.if-m-eq-MQ.false c.if-m-eq-MC.true) c.end_session-then-m-eq-MC.ensures
+    rw (kind-mc _ c.if-is_notification.false c.if-m-eq-MR.false c.if-m-eq-MP.false c.if-m-eq-MQ.false c.if-m-eq-MC.true) c.end_session-then-m-eq-MC.ensures
 
 pub returns : goal.returns
 returns c =
-    rw (kind-me _ c.if-m-eq-MN.false c.if-m-eq-MR.false c.if-m-eq-MP.false c.if-m-eq-MQ.false c.if-m-eq-MC.false) c.end_session-2.ensures
+    rw (kind-me _ c.if-is_notification.false c.if-m-eq-MR.false c.if-m-eq-MP.false c.if-m-eq-MQ.false c.if-m-eq-MC.false) c.end_session-2.ensures
