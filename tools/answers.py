@@ -28,6 +28,30 @@ def names_of(crate):
     return {k.split(".", 1)[1].rsplit(".Lts", 1)[0]: v for k, v in found.items() if ".Lts" in k}, said
 
 
+def promised():
+    """The names of the ensures of each function, where it has several, by crate and function."""
+    out = {}
+    for folder, _, files in os.walk("crates"):
+        if "/src" not in folder:
+            continue
+        crate = folder.split("/")[1]
+        for f in files:
+            if f.endswith(".rt"):
+                with open(os.path.join(folder, f), encoding="utf-8") as it:
+                    name = None
+                    for line in it:
+                        m = re.match(r"\s*(?:pub )?(?:extern \"C\" )?(?:unsafe )?fn (\w+)", line)
+                        if m:
+                            name = m.group(1)
+                        m = re.match(r"\s*ensures (\w+) \{", line)
+                        if m and name:
+                            out.setdefault((crate, name), []).append(m.group(1))
+    return out
+
+
+PROMISED = promised()
+
+
 def dashless(word):
     return re.sub(r"[-_]", "_", word)
 
@@ -129,6 +153,8 @@ class Turn:
             return ".".join([first, best[1]] + tail[len(best[0]):])
         if flat in self.typed and tail[:1] == ["given"]:
             return ".".join([first, "type_inv", self.typed[flat]] + tail[1:])
+        if flat in ("args", "ranges") and tail:
+            tail = [dashless(tail[0])] + tail[1:]
         return ".".join([first, self.step.get(flat, step)] + self.result(flat, tail))
 
     def result(self, flat, tail):
@@ -140,11 +166,11 @@ class Turn:
                 n += 1
             if params and tail[n:n + 1] == ["0"] and n - 1 < len(params):
                 return [tail[0], params[n - 1]] + tail[n + 1:]
-        if tail[:1] == ["ensures"] and len(tail) > 1 and tail[1].isdigit() and flat in self.clauses:
-            names = self.clauses[flat]
-            n = int(tail[1])
-            if isinstance(names, list) and n < len(names) and isinstance(names[n], str):
-                return ["ensures", names[n]] + tail[2:]
+        if tail[:1] == ["ensures"] and len(tail) > 1 and tail[1].isdigit() and flat in self.callee:
+            path = self.callee[flat].split("::")
+            names = PROMISED.get((path[0], path[-1]), [])
+            if int(tail[1]) < len(names):
+                return ["ensures", names[int(tail[1])]] + tail[2:]
         return tail
 
     def body(self, text):
@@ -163,10 +189,16 @@ class Turn:
                 kept = "".join("." + x for x in rest[1:].split(".") if x != "before")
                 return self.path(first, kept)
             if first in aliases:
-                return ".".join([first] + self.result(aliases[first], rest[1:].split(".")))
+                tail = rest[1:].split(".")
+                if aliases[first] in ("args", "loop"):
+                    tail[0] = dashless(tail[0])
+                return ".".join([first] + self.result(aliases[first], tail))
             return m.group(0)
 
         text = chain.sub(one, text)
+        text = re.sub(r"(\.wrapping_\w+[\w-]*\.ensures)(?![.\w])", r"\1.value", text)
+        text = re.sub(r"(-arg[-\d]*\.given)\.0(?!\d)", r"\1", text)
+        text = re.sub(r"\.(type|well|auto|no)-(inv|formed|deeper)(?![\w-])", r".\1_\2", text)
         for old, new in self.renamed:
             text = re.sub(r"(?<=[a-z])\.%s(?![\w'-])" % re.escape(old), "." + new, text)
         return text
@@ -174,11 +206,17 @@ class Turn:
     def tuple(self, need, text):
         """A tuple that answers a requires of several clauses is a record of them."""
         fields = self.of["asked"].get(need)
-        m = re.match(r"(\S+ c =\s*(?:let .* in\s*)*)\((.*)\)\s*$", text, re.S)
-        if not fields or not m:
+        text = text.rstrip()
+        if not fields or not text.endswith(")"):
             return text
+        depth, at = 0, len(text) - 1
+        while at >= 0:
+            depth += {")": 1, "(": -1}.get(text[at], 0)
+            if depth == 0:
+                break
+            at -= 1
         parts, depth, last = [], 0, ""
-        for ch in m.group(2):
+        for ch in text[at + 1:-1]:
             depth += {"(": 1, ")": -1, "[": 1, "]": -1}.get(ch, 0)
             if ch == "," and depth == 0:
                 parts.append(last)
@@ -189,7 +227,9 @@ class Turn:
             parts.append(last)
         if len(parts) != len(fields):
             return text
-        return m.group(1) + "record { " + "; ".join("%s = %s" % (f, p.strip()) for f, p in zip(fields, parts)) + " }"
+        made = "record { " + "; ".join("%s = %s" % (f, p.strip()) for f, p in zip(fields, parts)) + " }"
+        alone = re.search(r"(=|\bin)\s*$", text[:at])
+        return text[:at] + (made if alone else "(" + made + ")")
 
 
 def loop_names(of):

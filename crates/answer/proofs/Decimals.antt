@@ -1,7 +1,7 @@
 -- The fewest digits in base 10 that hold a number of 64 bits are its decimal digits; what a signed number's sign and bits say.
 -- Assumes nothing.
-use Rattle.std.proofs.Common.{◌≡◌, ℕ, zero, suc, ◌+◌, ◌-◌, ◌*◌, ◌/◌, ◌%◌, ◌^◌, ◌<◌, ◌≤◌, Bool, true, false, cond, ltb, List, [], ◌∷◌, ◌++◌, ℤ, pos, negsuc, sym, refl, ap, ◌∙◌, subst, ap₂, true≢false, lt_of_lt_of_le, div-lt_iff_lt-mul, pow-suc, le-div_iff_mul-le, arith, to_z-of_z, w32, SFits, to_z, of_z, ltb-false, ltb-true, le-ltb, lt-ltb}
-use native.Mathlib.Nat.{one-le-pow, pow-le-pow_right}
+use Rattle.std.proofs.Common.{◌≡◌, ℕ, zero, suc, ◌+◌, ◌-◌, ◌*◌, ◌/◌, ◌%◌, ◌^◌, ◌<◌, ◌≤◌, Bool, true, false, cond, List, [], ◌∷◌, ◌++◌, ℤ, pos, negsuc, sym, refl, ap, ◌∙◌, subst, ap₂, true≢false, pow-suc, arith, to_z-of_z, w32, SFits, to_z, of_z, ltb-true, le-ltb, lt-ltb}
+use native.Mathlib.Nat.{one-le-pow}
 use lib.Signed.{lt_z}
 use Rattle.octets.specs.Octets.{unsigned}
 use Rattle.io.specs.Digits.{hex_digit_ascii, last_digits, IsDigitCount}

@@ -16,12 +16,12 @@ put-length k t s h = simp (length-append, length-take, length-drop) (omega arith
 -- a piece that fits
 pub piece-fits : (s : List ℕ) (at : ℕ) (o : List ℕ) → at + length s ≤ length o → put_piece s (room at o) ≡ room (at + length s) (put at s o)
 unfolding put_piece
-piece-fits s at o h = ap (λ (b : Bool). cond b (room (at + length s) (put at s o)) (room (length o) o)) (le-leb (at + length s) (length o) h)
+piece-fits s at o h = rw (le-leb (at + length s) (length o) h)
 
 -- one that does not
 pub piece-over : (s : List ℕ) (at : ℕ) (o : List ℕ) → length o < at + length s → put_piece s (room at o) ≡ room (length o) o
 unfolding put_piece
-piece-over s at o h = ap (λ (b : Bool). cond b (room (at + length s) (put at s o)) (room (length o) o)) (lt-leb (at + length s) (length o) h)
+piece-over s at o h = rw (lt-leb (at + length s) (length o) h)
 
 -- either way the room stays as long as it was, and the place is within it
 pub piece-kept : (s : List ℕ) (r : Room) → ((put_piece s r).at ≤ length r.octets) × (length (put_piece s r).octets ≡ length r.octets)

@@ -82,7 +82,8 @@ pub fn signed(out: &mut [u8], at: usize, x: i32) -> usize
     ensures { Puts (signed_word x) at out.old result out.new }
 {
     let u = octets::to_unsigned(x);
-    if x < 0 {
+    let is_negative = x < 0;
+    if is_negative {
         let p = text(out, at, b" -");
         return digits(out, p, std::num::wrapping_sub_u32(0, u) as u64);
     }

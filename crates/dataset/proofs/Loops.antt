@@ -11,8 +11,8 @@ use lib.Dec.{ltb}
 use lib.ListN.{length, get_or, drop}
 use Rattle.refusal.specs.Refusal.{nesting, description, data_length}
 use Rattle.scalars.specs.Scalars.{parts_of, size}
-use Rattle.dataset.specs.Descriptions.{Element, elements_of, Found, described, fault, look_up}
-use Rattle.dataset.specs.Walk.{Walked, stopped, walked, behind, then, times, counts, Count, none, count_behind, with_items, items_of, walk_of, through_found, nested_of}
+use Rattle.dataset.specs.Descriptions.{Element, elements_of, Found, look_up}
+use Rattle.dataset.specs.Walk.{Walked, stopped, walked, then, times, counts, Count, none, count_behind, with_items, items_of, walk_of, through_found, nested_of}
 use Rattle.dataset.specs.Steps.{element, count_of, items_for, found_at, step_of, Stepped}
 use Rattle.dataset.specs.declared.Form.{Form}
 use Rattle.dataset.specs.declared.Place.TheVariants.{Elements, Fault}

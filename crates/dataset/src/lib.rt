@@ -110,8 +110,8 @@ fn look_up(run: &[u32], id: u32) -> Place
 
 // n scalars of a type from p on: judged, and written where that is asked.
 fn take_scalars(t: u32, n: u32, source: &[u8], p: usize, target: &mut [u8], write: bool) -> Step
-    requires p_in_bounds { p ≤ length source.now }
-    requires source_in_bounds { write ≡ true → length source.now ≤ length target.old }
+    requires in_source { p ≤ length source.now }
+    requires room { write ≡ true → length source.now ≤ length target.old }
     ensures { Stepped (times n (turned (parts_of t)) (drop p source.now)) (length source.now) p write target.old result target.new }
 {
     let shape = scalars::shape_of(t);
@@ -200,8 +200,8 @@ fn walk(
     target: &mut [u8],
     write: bool,
 ) -> Step
-    requires from_in_bounds { from ≤ length source.now }
-    requires source_in_bounds { write ≡ true → length source.now ≤ length target.old }
+    requires in_source { from ≤ length source.now }
+    requires room { write ≡ true → length source.now ≤ length target.old }
     ensures { Stepped (nested_of levels form run.now id n (drop from source.now)) (length source.now) from write target.old result target.new }
 {
     if n == 0 {

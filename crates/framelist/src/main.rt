@@ -1,12 +1,12 @@
 // A capture listed: PD frames read from standard input, one a line, each handed to a subscription and answered by a line on standard output.
 #![tactic(auto)]
 
-ghost use Rattle.std.specs.Prelude.{◌≡◌, ◌<◌, ◌≤◌, length};
+ghost use Rattle.std.specs.Prelude.{◌≡◌, ◌<◌, ◌≤◌, length, IfOk};
 
 use capture::HeadLine;
-use libc::STDIN_FILENO;
 use line::output;
 use listing::{Listing, Outcome};
+use std::io::{self, Read, Stdin, Stdout};
 use topography::TopoCounts;
 
 // The longest line of the form: sender, destination, time and their spaces, and 2,944 digits.
@@ -98,57 +98,73 @@ fn take_head(r: Run, s: &[u8], out: &mut [u8]) -> Run
 }
 
 // What became of the next line is answered.
-fn reply(r: Run, l: Listing, o: Outcome, out: &mut [u8]) -> Run
-    ensures { result.waiting ≤ length out.old }
+fn reply(to: Stdout, r: Run, l: Listing, o: Outcome, out: &mut [u8]) -> io::Result<Run>
+    ensures { IfOk result (λ after. after.waiting ≤ length out.old) }
 {
     let n = std::num::wrapping_add_u64(r.lines, 1);
     let at = listing::put_outcome(out, r.waiting, n, o);
-    Run {
+    let waiting = output::flush(to, out, at, BLOCK)?;
+    Ok(Run {
         stage: Stage::Frames,
         listing: l,
         lines: n,
-        waiting: output::flush(out, at, BLOCK),
+        waiting: waiting,
         begun: 0,
-    }
+    })
 }
 
-fn take_frame(r: Run, s: &[u8], store: &mut [u8], buffer: &mut [u8; 1472], out: &mut [u8]) -> Run
-    ensures { result.waiting ≤ length out.old }
+fn take_frame(
+    to: Stdout,
+    r: Run,
+    s: &[u8],
+    store: &mut [u8],
+    buffer: &mut [u8; 1472],
+    out: &mut [u8],
+) -> io::Result<Run>
+    ensures { IfOk result (λ after. after.waiting ≤ length out.old) }
 {
     let before = r.listing;
     let x = listing::list(before, s, store, buffer);
     let l = x.listing;
     let o = x.outcome;
-    reply(r, l, o, out)
+    reply(to, r, l, o, out)
 }
 
 // A whole line.
-fn take_line(r: Run, s: &[u8], store: &mut [u8], buffer: &mut [u8; 1472], out: &mut [u8]) -> Run
+fn take_line(
+    to: Stdout,
+    r: Run,
+    s: &[u8],
+    store: &mut [u8],
+    buffer: &mut [u8; 1472],
+    out: &mut [u8],
+) -> io::Result<Run>
     requires { r.waiting ≤ length out.old }
-    ensures { result.waiting ≤ length out.old }
+    ensures { IfOk result (λ after. after.waiting ≤ length out.old) }
 {
     let stage = r.stage;
     match stage {
-        Stage::Head => take_head(r, s, out),
-        Stage::Frames => take_frame(r, s, store, buffer, out),
-        Stage::Over => r,
+        Stage::Head => Ok(take_head(r, s, out)),
+        Stage::Frames => take_frame(to, r, s, store, buffer, out),
+        Stage::Over => Ok(r),
     }
 }
 
 // A line gathered from several blocks. One too long is taken as an empty line is.
 fn take_gathered(
+    to: Stdout,
     r: Run,
     line: &[u8],
     begun: usize,
     store: &mut [u8],
     buffer: &mut [u8; 1472],
     out: &mut [u8],
-) -> Run
+) -> io::Result<Run>
     requires { r.waiting ≤ length out.old }
-    ensures { result.waiting ≤ length out.old }
+    ensures { IfOk result (λ after. after.waiting ≤ length out.old) }
 {
     let n = line::ended(line, begun);
-    take_line(r, &line[..n], store, buffer, out)
+    take_line(to, r, &line[..n], store, buffer, out)
 }
 
 fn carry(r: Run, begun: usize) -> Run
@@ -167,6 +183,7 @@ fn carry(r: Run, begun: usize) -> Run
 
 // Octets of a block up to where a line ends or the block does.
 fn take_part(
+    to: Stdout,
     r: Run,
     part: &[u8],
     is_end: bool,
@@ -174,39 +191,49 @@ fn take_part(
     store: &mut [u8],
     buffer: &mut [u8; 1472],
     out: &mut [u8],
-) -> Run
+) -> io::Result<Run>
     requires { r.waiting ≤ length out.old }
-    ensures { result.waiting ≤ length out.old }
+    ensures { IfOk result (λ after. after.waiting ≤ length out.old) }
 {
     if is_end {
         if r.begun == 0 {
-            return take_line(r, part, store, buffer, out);
+            return take_line(to, r, part, store, buffer, out);
         }
         let whole = line::gather(line, r.begun, part);
-        return take_gathered(r, line, whole, store, buffer, out);
+        return take_gathered(to, r, line, whole, store, buffer, out);
     }
-    carry(r, line::gather(line, r.begun, part))
+    Ok(carry(r, line::gather(line, r.begun, part)))
 }
 
 fn take_block(
+    to: Stdout,
     begin: Run,
     block: &[u8],
     line: &mut [u8],
     store: &mut [u8],
     buffer: &mut [u8; 1472],
     out: &mut [u8],
-) -> Run
+) -> io::Result<Run>
     requires { begin.waiting ≤ length out.old }
-    ensures { result.waiting ≤ length out.old }
+    ensures { IfOk result (λ after. after.waiting ≤ length out.old) }
 {
     let mut r = begin;
     let mut i: usize = 0;
     while i < block.len() {
         let e = line::line_end(block, i);
-        r = take_part(r, &block[i..e], e < block.len(), line, store, buffer, out);
+        r = take_part(
+            to,
+            r,
+            &block[i..e],
+            e < block.len(),
+            line,
+            store,
+            buffer,
+            out,
+        )?;
         i = line::behind_end(block, e);
     }
-    r
+    Ok(r)
 }
 
 // Nothing more is wanted of the input.
@@ -219,56 +246,65 @@ fn is_over(r: Run) -> bool {
     }
 }
 
-// One block read, and its lines answered.
+// One block read, and its lines answered. Where the read fails, the answers that wait are written.
 fn read_block(
+    input: Stdin,
+    to: Stdout,
     r: Run,
     block: &mut [u8],
     line: &mut [u8],
     store: &mut [u8],
     buffer: &mut [u8; 1472],
     out: &mut [u8],
-) -> Turn
+) -> io::Result<Turn>
     requires { r.waiting ≤ length out.old }
-    ensures { result.run.waiting ≤ length out.old }
+    ensures { IfOk result (λ turn. turn.run.waiting ≤ length out.old) }
 {
-    let n = io::count(libc::read(STDIN_FILENO, block), block);
+    let mut from = input;
+    let n = match from.read(block) {
+        Ok(n) => n,
+        Err(e) => {
+            output::flush(to, out, r.waiting, 0)?;
+            return Err(e);
+        }
+    };
     if n == 0 {
-        return Turn {
+        return Ok(Turn {
             run: r,
             is_over: true,
-        };
+        });
     }
-    let after = take_block(r, &block[..n], line, store, buffer, out);
-    Turn {
+    let after = take_block(to, r, &block[..n], line, store, buffer, out)?;
+    Ok(Turn {
         run: after,
         is_over: is_over(after),
-    }
+    })
 }
 
 // A last line without LF is bad; the total follows.
-fn end_frames(r: Run, out: &mut [u8]) -> usize
+fn end_frames(to: Stdout, r: Run, out: &mut [u8]) -> io::Result<usize>
     requires { r.waiting ≤ length out.old }
-    ensures { result ≤ length out.old }
+    ensures { IfOk result (λ waiting. waiting ≤ length out.old) }
 {
     let l = r.listing;
     let t = l.totals;
     if 0 < r.begun {
-        let last = reply(r, l, Outcome::BadLine, out);
-        return listing::put_total(out, last.waiting, t);
+        let last = reply(to, r, l, Outcome::BadLine, out)?;
+        return Ok(listing::put_total(out, last.waiting, t));
     }
-    listing::put_total(out, r.waiting, t)
+    Ok(listing::put_total(out, r.waiting, t))
 }
 
 // The input is over; how many octets of answers wait.
-fn end(r: Run, out: &mut [u8]) -> usize
+fn end(to: Stdout, r: Run, out: &mut [u8]) -> io::Result<usize>
     requires { r.waiting ≤ length out.old }
-    ensures { result ≤ length out.old }
+    ensures { IfOk result (λ waiting. waiting ≤ length out.old) }
 {
     let stage = r.stage;
     match stage {
-        Stage::Head => answer::text(out, r.waiting, b"bad start\n"),
-        Stage::Frames => end_frames(r, out),
-        Stage::Over => r.waiting,
+        Stage::Head => Ok(answer::text(out, r.waiting, b"bad start\n")),
+        Stage::Frames => end_frames(to, r, out),
+        Stage::Over => Ok(r.waiting),
     }
 }
 
@@ -285,38 +321,43 @@ fn fewer(turns: u64, is_over: bool) -> u64
 
 // Block after block. A proved loop has to end, and nothing says that the input does: the turns count down from a number that no run uses up.
 fn list_input(
+    input: Stdin,
+    to: Stdout,
     begin: Run,
     block: &mut [u8],
     line: &mut [u8],
     store: &mut [u8],
     buffer: &mut [u8; 1472],
     out: &mut [u8],
-)
+) -> io::Result<()>
     requires { begin.waiting ≤ length out.old }
 {
     let mut r = begin;
     let mut turns = u64::MAX;
     while 0 < turns {
-        let t = read_block(r, block, line, store, buffer, out);
+        let t = read_block(input, to, r, block, line, store, buffer, out)?;
         r = t.run;
         turns = fewer(turns, t.is_over);
     }
-    let n = end(r, out);
-    output::flush(out, n, 0);
+    let n = end(to, r, out)?;
+    output::flush(to, out, n, 0)?;
+    Ok(())
 }
 
-fn main() {
+fn main(rt: HostRuntime) -> io::Result<()> {
     let mut block = [0u8; BLOCK];
     let mut line = [0u8; LINE];
     let mut store = [0u8; 1432];
     let mut buffer = [0u8; 1472];
     let mut out = [0u8; ROOM];
     list_input(
+        rt.stdin(),
+        rt.stdout(),
         begin(),
         &mut block,
         &mut line,
         &mut store,
         &mut buffer,
         &mut out,
-    );
+    )
 }

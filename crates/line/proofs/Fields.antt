@@ -1,6 +1,6 @@
 -- Fields read one after the other, and what the line then says; the target of a room; a verb among others.
 -- Assumes nothing.
-use mathlib.Core.Path.{◌≡◌, refl, sym, ap, ap₂, ◌∙◌}
+use mathlib.Core.Path.{◌≡◌, refl, sym, ap, ◌∙◌}
 use mathlib.Core.Bool.{Bool, true, false, cond, not, ◌&&◌, true≢false}
 use mathlib.Core.List.{List}
 use mathlib.Core.Option.{Option, none, some}
@@ -11,7 +11,7 @@ use lib.ListN.{length, take, replicate}
 use Rattle.octets.specs.Octets.{part}
 use Rattle.hexadecimal.specs.Hex.{number}
 use Rattle.line.specs.declared.Field.{Field}
-use Rattle.line.specs.Line.{number_field, octets_field, octets_in, ends, with_end, with_number, with_field, eight, target_of}
+use Rattle.line.specs.Line.{number_field, octets_field, octets_in, ends, with_end, with_number, with_field, target_of}
 use Rattle.line.proofs.Said.{fresh, before-read}
 
 not-bad : (a b : Bool) → (not a && b) ≡ true → a ≡ false

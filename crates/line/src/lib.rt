@@ -4,7 +4,7 @@
 pub mod output;
 
 ghost use Rattle.std.specs.Prelude.{◌≡◌, false, cond, eqb, ◌+◌, ◌*◌, ◌%◌, ◌^◌, ◌≤◌, min, max, length, take, replicate};
-ghost use Rattle.io.specs.Counts.{IsPrefixLen};
+ghost use Rattle.std.specs.Counts.{IsPrefixLen};
 ghost use Rattle.answer.specs.Answer.{room};
 ghost use Rattle.line.specs.Lines.{has_end, first_end, gathered, ended_of};
 ghost use Rattle.line.specs.Line.{verb_is, has_digits, bad_at, read_to, number_field, octets_field, octets_in, ends, left, last_field, target_after};

@@ -1,24 +1,26 @@
 // Output gathered in memory and written in large blocks.
-ghost use Rattle.std.specs.Prelude.{◌≡◌, cond, ◌≤◌, ltb, length};
+ghost use Rattle.std.specs.Prelude.{◌≡◌, cond, ◌<◌, ◌≤◌, ltb, length, IfOk, OnErr};
 
-use libc::STDOUT_FILENO;
+use std::io::{self, Print, Stdout};
 
 // The first n octets written to standard output.
-fn write(out: &[u8], n: usize)
+fn write(to: Stdout, out: &[u8], n: usize) -> io::Result<()>
     requires { n ≤ length out.now }
 {
-    io::write_all(STDOUT_FILENO, &out[..n]);
+    to.write_all(&out[..n])
 }
 
-// Octets that wait written out where they are more than some number; how many still wait.
-pub fn flush(out: &[u8], waiting: usize, most: usize) -> usize
+// Octets that wait written out where they are more than some number; how many still wait. An error comes of the write
+// alone, which may then have written some of them.
+pub fn flush(to: Stdout, out: &[u8], waiting: usize, most: usize) -> io::Result<usize>
     requires { waiting ≤ length out.now }
-    ensures upper_bound { result ≤ waiting }
-    ensures value { result ≡ cond (ltb most waiting) 0 waiting }
+    ensures upper_bound { IfOk result (λ n. n ≤ waiting) }
+    ensures value { IfOk result (λ n. n ≡ cond (ltb most waiting) 0 waiting) }
+    ensures err { OnErr result (most < waiting) }
 {
     if most < waiting {
-        write(out, waiting);
-        return 0;
+        write(to, out, waiting)?;
+        return Ok(0);
     }
-    waiting
+    Ok(waiting)
 }

@@ -49,8 +49,8 @@ pub fn size_of(shape: usize) -> usize
 
 // The octets of the source at p, turned round, written to the target at p.
 fn turn2(source: &[u8], p: usize, target: &mut [u8])
-    requires p_in_bounds { p + 2 ≤ length source.now }
-    requires p_in_bounds_2 { p + 2 ≤ length target.old }
+    requires in_source { p + 2 ≤ length source.now }
+    requires in_target { p + 2 ≤ length target.old }
     ensures { target.new ≡ put p (reverse (part 2 p source.now)) target.old }
 {
     let a = source[p];
@@ -68,8 +68,8 @@ fn put_turned(target: &mut [u8], k: usize, a: [u8; 4])
 }
 
 fn turn4(source: &[u8], p: usize, target: &mut [u8])
-    requires p_in_bounds { p + 4 ≤ length source.now }
-    requires p_in_bounds_2 { p + 4 ≤ length target.old }
+    requires in_source { p + 4 ≤ length source.now }
+    requires in_target { p + 4 ≤ length target.old }
     ensures { target.new ≡ put p (reverse (part 4 p source.now)) target.old }
 {
     let a = octets::four(source, p);
@@ -77,8 +77,8 @@ fn turn4(source: &[u8], p: usize, target: &mut [u8])
 }
 
 fn turn8(source: &[u8], p: usize, target: &mut [u8])
-    requires p_in_bounds { p + 8 ≤ length source.now }
-    requires p_in_bounds_2 { p + 8 ≤ length target.old }
+    requires in_source { p + 8 ≤ length source.now }
+    requires in_target { p + 8 ≤ length target.old }
     ensures { target.new ≡ put p (reverse (part 8 p source.now)) target.old }
 {
     let a = octets::four(source, p);
@@ -89,8 +89,8 @@ fn turn8(source: &[u8], p: usize, target: &mut [u8])
 
 // n scalars from p on, of one octet.
 fn array1(n: usize, source: &[u8], p: usize, target: &mut [u8])
-    requires n_in_bounds { p + n * 1 ≤ length source.now }
-    requires n_in_bounds_2 { p + n * 1 ≤ length target.old }
+    requires in_source { p + n * 1 ≤ length source.now }
+    requires in_target { p + n * 1 ≤ length target.old }
     ensures { target.new ≡ put p (array_at n (1 ∷ []) p source.now) target.old }
 {
     let e = p + n;
@@ -107,8 +107,8 @@ fn put_pairs(target: &mut [u8], k: usize, a: [u8; 4])
 
 // Four scalars of two octets.
 fn turn2s(source: &[u8], p: usize, target: &mut [u8])
-    requires p_in_bounds { p + 8 ≤ length source.now }
-    requires p_in_bounds_2 { p + 8 ≤ length target.old }
+    requires in_source { p + 8 ≤ length source.now }
+    requires in_target { p + 8 ≤ length target.old }
     ensures { target.new ≡ put p (turned_at (2 ∷ 2 ∷ 2 ∷ 2 ∷ []) p source.now) target.old }
 {
     let a = octets::four(source, p);
@@ -119,8 +119,8 @@ fn turn2s(source: &[u8], p: usize, target: &mut [u8])
 
 // n times four scalars from p on, of two octets.
 fn array2s(n: usize, source: &[u8], p: usize, target: &mut [u8])
-    requires n_in_bounds { p + n * 8 ≤ length source.now }
-    requires n_in_bounds_2 { p + n * 8 ≤ length target.old }
+    requires in_source { p + n * 8 ≤ length source.now }
+    requires in_target { p + n * 8 ≤ length target.old }
     ensures { target.new ≡ put p (array_at n (2 ∷ 2 ∷ 2 ∷ 2 ∷ []) p source.now) target.old }
 {
     let mut q = p;
@@ -134,8 +134,8 @@ fn array2s(n: usize, source: &[u8], p: usize, target: &mut [u8])
 
 // A few scalars from p on, of two octets.
 fn few2(n: usize, source: &[u8], p: usize, target: &mut [u8])
-    requires n_in_bounds { p + n * 2 ≤ length source.now }
-    requires n_in_bounds_2 { p + n * 2 ≤ length target.old }
+    requires in_source { p + n * 2 ≤ length source.now }
+    requires in_target { p + n * 2 ≤ length target.old }
     ensures { target.new ≡ put p (array_at n (2 ∷ []) p source.now) target.old }
 {
     let mut q = p;
@@ -149,8 +149,8 @@ fn few2(n: usize, source: &[u8], p: usize, target: &mut [u8])
 
 // n scalars from p on, of two octets: four at a time, then those left.
 fn array2(n: usize, source: &[u8], p: usize, target: &mut [u8])
-    requires n_in_bounds { p + n * 2 ≤ length source.now }
-    requires n_in_bounds_2 { p + n * 2 ≤ length target.old }
+    requires in_source { p + n * 2 ≤ length source.now }
+    requires in_target { p + n * 2 ≤ length target.old }
     ensures { target.new ≡ put p (array_at n (2 ∷ []) p source.now) target.old }
 {
     let fours = n / 4;
@@ -161,8 +161,8 @@ fn array2(n: usize, source: &[u8], p: usize, target: &mut [u8])
 
 // n scalars from p on, of four octets.
 fn array4(n: usize, source: &[u8], p: usize, target: &mut [u8])
-    requires n_in_bounds { p + n * 4 ≤ length source.now }
-    requires n_in_bounds_2 { p + n * 4 ≤ length target.old }
+    requires in_source { p + n * 4 ≤ length source.now }
+    requires in_target { p + n * 4 ≤ length target.old }
     ensures { target.new ≡ put p (array_at n (4 ∷ []) p source.now) target.old }
 {
     let mut q = p;
@@ -176,8 +176,8 @@ fn array4(n: usize, source: &[u8], p: usize, target: &mut [u8])
 
 // n scalars from p on, of eight octets.
 fn array8(n: usize, source: &[u8], p: usize, target: &mut [u8])
-    requires n_in_bounds { p + n * 8 ≤ length source.now }
-    requires n_in_bounds_2 { p + n * 8 ≤ length target.old }
+    requires in_source { p + n * 8 ≤ length source.now }
+    requires in_target { p + n * 8 ≤ length target.old }
     ensures { target.new ≡ put p (array_at n (8 ∷ []) p source.now) target.old }
 {
     let mut q = p;
@@ -191,8 +191,8 @@ fn array8(n: usize, source: &[u8], p: usize, target: &mut [u8])
 
 // n scalars from p on, TIMEDATE48: four octets, then two.
 fn array48(n: usize, source: &[u8], p: usize, target: &mut [u8])
-    requires n_in_bounds { p + n * 6 ≤ length source.now }
-    requires n_in_bounds_2 { p + n * 6 ≤ length target.old }
+    requires in_source { p + n * 6 ≤ length source.now }
+    requires in_target { p + n * 6 ≤ length target.old }
     ensures { target.new ≡ put p (array_at n (4 ∷ 2 ∷ []) p source.now) target.old }
 {
     let mut q = p;
@@ -207,8 +207,8 @@ fn array48(n: usize, source: &[u8], p: usize, target: &mut [u8])
 
 // n scalars of a shape from p on, each part turned round by itself, written to the target at p.
 pub fn turn(shape: usize, n: usize, source: &[u8], p: usize, target: &mut [u8])
-    requires shape_in_bounds { p + n * size (shape_parts shape) ≤ length source.now }
-    requires shape_in_bounds_2 { p + n * size (shape_parts shape) ≤ length target.old }
+    requires in_source { p + n * size (shape_parts shape) ≤ length source.now }
+    requires in_target { p + n * size (shape_parts shape) ≤ length target.old }
     ensures { target.new ≡ put p (array_at n (shape_parts shape) p source.now) target.old }
 {
     match shape {

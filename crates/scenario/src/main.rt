@@ -1,11 +1,11 @@
 // Calls of the stack read from standard input, one a line, each answered by a line on standard output.
 #![tactic(auto)]
 
-ghost use Rattle.std.specs.Prelude.{◌≡◌, ◌<◌, ◌≤◌, length};
+ghost use Rattle.std.specs.Prelude.{◌≡◌, ◌<◌, ◌≤◌, length, IfOk};
 
-use libc::STDIN_FILENO;
 use line::output;
 use scenario_calls::State;
+use std::io::{self, Read, Stdin, Stdout};
 
 // The longest line: `mdwrite`, its fields, and 66,000 octets.
 const LINE: usize = 132_240;
@@ -39,44 +39,53 @@ struct Turn {
 }
 
 // A line answered, with its number before the answer; where there is no room at all, nothing is.
-fn reply(r: Run, descriptions: &mut [u32], store: &mut [u8], s: &[u8], out: &mut [u8]) -> Run
-    ensures { result.waiting ≤ length out.old }
+fn reply(
+    to: Stdout,
+    r: Run,
+    descriptions: &mut [u32],
+    store: &mut [u8],
+    s: &[u8],
+    out: &mut [u8],
+) -> io::Result<Run>
+    ensures { IfOk result (λ after. after.waiting ≤ length out.old) }
 {
     let n = std::num::wrapping_add_u64(r.lines, 1);
     let at = answer::digits(out, r.waiting, n);
     let before = r.state;
     if at == 0 {
-        return Run {
+        return Ok(Run {
             state: before,
             lines: n,
             waiting: 0,
             begun: 0,
-        };
+        });
     }
     let o = scenario_calls::answer(before, descriptions, store, s, out, at);
     let state = o.state;
     let end = answer::text(out, o.at, b"\n");
-    Run {
+    let waiting = output::flush(to, out, end, BLOCK)?;
+    Ok(Run {
         state: state,
         lines: n,
-        waiting: output::flush(out, end, BLOCK),
+        waiting: waiting,
         begun: 0,
-    }
+    })
 }
 
 // The line begun has ended.
 fn end_line(
+    to: Stdout,
     r: Run,
     descriptions: &mut [u32],
     store: &mut [u8],
     line: &[u8],
     begun: usize,
     out: &mut [u8],
-) -> Run
-    ensures { result.waiting ≤ length out.old }
+) -> io::Result<Run>
+    ensures { IfOk result (λ after. after.waiting ≤ length out.old) }
 {
     let n = line::ended(line, begun);
-    reply(r, descriptions, store, &line[..n], out)
+    reply(to, r, descriptions, store, &line[..n], out)
 }
 
 fn carry(r: Run, begun: usize) -> Run
@@ -93,6 +102,7 @@ fn carry(r: Run, begun: usize) -> Run
 
 // The octets of a block from i up to e, where a line ends or the block does.
 fn take_line(
+    to: Stdout,
     r: Run,
     descriptions: &mut [u32],
     store: &mut [u8],
@@ -101,74 +111,92 @@ fn take_line(
     i: usize,
     e: usize,
     out: &mut [u8],
-) -> Run
+) -> io::Result<Run>
     requires i_le_e { (i ≤ e) × (e ≤ length block.now) }
     requires waiting_in_bounds { r.waiting ≤ length out.old }
-    ensures { result.waiting ≤ length out.old }
+    ensures { IfOk result (λ after. after.waiting ≤ length out.old) }
 {
     let begun = line::gather(line, r.begun, &block[i..e]);
     if e < block.len() {
-        return end_line(r, descriptions, store, line, begun, out);
+        return end_line(to, r, descriptions, store, line, begun, out);
     }
-    carry(r, begun)
+    Ok(carry(r, begun))
 }
 
 fn take_block(
+    to: Stdout,
     begin: Run,
     descriptions: &mut [u32],
     store: &mut [u8],
     line: &mut [u8],
     block: &[u8],
     out: &mut [u8],
-) -> Run
+) -> io::Result<Run>
     requires { begin.waiting ≤ length out.old }
-    ensures { result.waiting ≤ length out.old }
+    ensures { IfOk result (λ after. after.waiting ≤ length out.old) }
 {
     let mut r = begin;
     let mut i: usize = 0;
     while i < block.len() {
         let e = line::line_end(block, i);
-        r = take_line(r, descriptions, store, line, block, i, e, out);
+        r = take_line(to, r, descriptions, store, line, block, i, e, out)?;
         i = line::behind_end(block, e);
     }
-    r
+    Ok(r)
 }
 
-// One block read, and its lines answered.
+// One block read, and its lines answered. Where the read fails, the answers that wait are written.
 fn read_block(
+    input: Stdin,
+    to: Stdout,
     r: Run,
     descriptions: &mut [u32],
     store: &mut [u8],
     block: &mut [u8],
     line: &mut [u8],
     out: &mut [u8],
-) -> Turn
+) -> io::Result<Turn>
     requires { r.waiting ≤ length out.old }
-    ensures { result.run.waiting ≤ length out.old }
+    ensures { IfOk result (λ turn. turn.run.waiting ≤ length out.old) }
 {
-    let n = io::count(libc::read(STDIN_FILENO, block), block);
+    let mut from = input;
+    let n = match from.read(block) {
+        Ok(n) => n,
+        Err(e) => {
+            output::flush(to, out, r.waiting, 0)?;
+            return Err(e);
+        }
+    };
     if n == 0 {
-        return Turn {
+        return Ok(Turn {
             run: r,
             is_over: true,
-        };
+        });
     }
-    Turn {
-        run: take_block(r, descriptions, store, line, &block[..n], out),
+    let after = take_block(to, r, descriptions, store, line, &block[..n], out)?;
+    Ok(Turn {
+        run: after,
         is_over: false,
-    }
+    })
 }
 
 // A last line without LF is bad; then all that waits is written.
-fn finish(r: Run, descriptions: &mut [u32], store: &mut [u8], out: &mut [u8])
+fn finish(
+    to: Stdout,
+    r: Run,
+    descriptions: &mut [u32],
+    store: &mut [u8],
+    out: &mut [u8],
+) -> io::Result<()>
     requires { r.waiting ≤ length out.old }
 {
     if 0 < r.begun {
-        let last = reply(r, descriptions, store, b"", out);
-        output::flush(out, last.waiting, 0);
+        let last = reply(to, r, descriptions, store, b"", out)?;
+        output::flush(to, out, last.waiting, 0)?;
     } else {
-        output::flush(out, r.waiting, 0);
+        output::flush(to, out, r.waiting, 0)?;
     }
+    Ok(())
 }
 
 // The turns left after one of them: none once the input is over.
@@ -184,26 +212,28 @@ fn fewer(turns: u64, is_over: bool) -> u64
 
 // Block after block. A proved loop has to end, and nothing says that the input does: the turns count down from a number that no run uses up.
 fn answer_input(
+    input: Stdin,
+    to: Stdout,
     begin: Run,
     descriptions: &mut [u32],
     store: &mut [u8],
     block: &mut [u8],
     line: &mut [u8],
     out: &mut [u8],
-)
+) -> io::Result<()>
     requires { begin.waiting ≤ length out.old }
 {
     let mut r = begin;
     let mut turns = u64::MAX;
     while 0 < turns {
-        let t = read_block(r, descriptions, store, block, line, out);
+        let t = read_block(input, to, r, descriptions, store, block, line, out)?;
         r = t.run;
         turns = fewer(turns, t.is_over);
     }
-    finish(r, descriptions, store, out);
+    finish(to, r, descriptions, store, out)
 }
 
-fn main() {
+fn main(rt: HostRuntime) -> io::Result<()> {
     let mut descriptions = [0u32; NUMBERS];
     let mut store = [0u8; STORE];
     let mut block = [0u8; BLOCK];
@@ -216,11 +246,13 @@ fn main() {
         begun: 0,
     };
     answer_input(
+        rt.stdin(),
+        rt.stdout(),
         begin,
         &mut descriptions,
         &mut store,
         &mut block,
         &mut line,
         &mut out,
-    );
+    )
 }

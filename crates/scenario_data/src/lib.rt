@@ -2,7 +2,7 @@
 #![tactic(auto)]
 
 ghost use Rattle.std.specs.Prelude.{◌≡◌, ◌≤◌, ◌*◌, length, take};
-ghost use Rattle.io.specs.Counts.{IsPrefixLen};
+ghost use Rattle.std.specs.Counts.{IsPrefixLen};
 ghost use Rattle.octets.specs.Octets.{put};
 ghost use Rattle.answer.specs.Answer.{Puts, Answers};
 ghost use Rattle.scenario_data.specs.Data.{numbers_of, is_run, types_said, converted_words, convert_words, convert_answer, data_said, Describes};

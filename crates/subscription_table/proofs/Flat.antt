@@ -92,7 +92,7 @@ pub named_flat : (u : Cell → Outcome Answer Cell) (rs : List Subscription) (st
 unfolding at_slot
 named_flat u rs st k h e =
     let x : Cell = record { slot = get_or rs k free_cell.slot; octets = take slot_octets (drop (k * slot_octets) st) } in
-    rw (parts_at rs st k h, records-set (parts rs st) k (u x).after, records-parts rs st, store-set rs st k (u x).after h e) (rw (parts_at rs st k h, at_slot) refl)
+    rw (parts_at rs st k h, records-set (parts rs st) k (u x).after, records-parts rs st, store-set rs st k (u x).after h e) refl
 
 -- ---- a walk: the slots up to j have taken their step
 

@@ -18,7 +18,7 @@ pub joined-requires : goal.joined-requires
 joined-requires c =
     let i = c.loop-i.i in
     let a = c in
-    (hex-at a.args.digits.now (2 * i) a.requires.0 (omega arith), hex-at a.args.digits.now (2 * i + 1) a.requires.0 (omega arith))
+    (hex-at a.args.digits.now (2 * i) a.requires.digits_value (omega arith), hex-at a.args.digits.now (2 * i + 1) a.requires.digits_value (omega arith))
 
 pub loop-i-preserved : goal.loop-i-preserved
 loop-i-preserved c =

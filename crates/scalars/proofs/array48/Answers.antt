@@ -21,13 +21,13 @@ loop-i-init c =
     )
 
 pub turn4-requires : goal.turn4-requires
-turn4-requires c = record { p_in_bounds = omega arith; p_in_bounds_2 = omega arith }
+turn4-requires c = record { in_source = omega arith; in_target = omega arith }
 
 pub overflow_add-q : goal.overflow_add-q
 overflow_add-q c = omega arith
 
 pub turn2-requires : goal.turn2-requires
-turn2-requires c = record { p_in_bounds = omega arith; p_in_bounds_2 = omega (arith, c.turn4.auto.target) }
+turn2-requires c = record { in_source = omega arith; in_target = omega (arith, c.turn4.auto.target) }
 
 pub overflow_add-q-in-loop-i : goal.overflow_add-q-in-loop-i
 overflow_add-q-in-loop-i c = omega arith

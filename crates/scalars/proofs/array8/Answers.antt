@@ -21,7 +21,7 @@ loop-i-init c =
     )
 
 pub turn8-requires : goal.turn8-requires
-turn8-requires c = record { p_in_bounds = omega arith; p_in_bounds_2 = omega arith }
+turn8-requires c = record { in_source = omega arith; in_target = omega arith }
 
 pub overflow_add-q : goal.overflow_add-q
 overflow_add-q c = omega arith

@@ -21,7 +21,7 @@ loop-i-init c =
     )
 
 pub turn2-requires : goal.turn2-requires
-turn2-requires c = record { p_in_bounds = omega arith; p_in_bounds_2 = omega arith }
+turn2-requires c = record { in_source = omega arith; in_target = omega arith }
 
 pub overflow_add-q : goal.overflow_add-q
 overflow_add-q c = omega arith

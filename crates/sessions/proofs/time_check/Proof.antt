@@ -25,8 +25,8 @@ loop-again : tie.Need-loop-preserved invariant-loop decreases-loop
 loop-again c =
     let l = c.before.before.before.before.before.before.before.loop in
     let a = c.before.before.before.before.before.before.before.before.args in
-    let z : to_z w32 (of_z w32 c.before.before.code_of_lem.result) ≡ c.before.before.code_of_lem.result = search rules in
-    (omega arith, l.invariant.1, turned_more a.time a.octets.now _ l.invariant.1 l.octets _ l.codes l.i _ (omega arith) l.invariant.2 (z ∙ c.before.before.code_of_lem.ensures ∙ ap (λ (x : Session). code_of a.time x.state) c.before.before.before.session-at.ensures) c.expire.ensures)
+    let z : to_z w32 (of_z w32 c.before.before.code_of.result) ≡ c.before.before.code_of.result = search rules in
+    (omega arith, l.invariant.1, turned_more a.time a.octets.now _ l.invariant.1 l.octets _ l.codes l.i _ (omega arith) l.invariant.2 (z ∙ c.before.before.code_of.ensures ∙ ap (λ (x : Session). code_of a.time x.state) c.before.before.before.session-at.ensures) c.expire.ensures)
 
 returns : tie.Need-returns invariant-loop decreases-loop
 returns c =

@@ -1,0 +1,6 @@
+-- Slot 0 as it is granted, and nothing counted.
+use Rattle.std.proofs.Common.{rules}
+use Rattle.listing.proofs.begin.Goals as goal
+
+pub returns : goal.returns
+returns c = cc (c.subscribe.ensures, c.none.ensures)
