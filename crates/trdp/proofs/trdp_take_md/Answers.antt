@@ -7,7 +7,7 @@ use borrow.Author.Rules.{rules}
 use Rattle.trdp.proofs.trdp_take_md.Goals as goal
 
 pub returns-in_default : goal.returns-in_default
-returns-in_default c = c.refused_md.ensures ∙ ap no_md_datagram c.refusal.ensures ∙ not_taken _ _ _ _ c.take_md-taken.ensures c.in_default.is
+returns-in_default c = c.refused_md.ensures ∙ ap no_md_datagram c.refusal.ensures ∙ not_taken c.args.datagram.now _ _ _ c.take_md-taken.ensures c.in_default.is
 
 pub thirty_two-source-requires : goal.thirty_two-source-requires
 thirty_two-source-requires c = let d = c.args.datagram.now in omega (arith, has-header d _ _ c.take_md-taken.ensures c.in-Header.is)
