@@ -13,6 +13,7 @@ pub struct SenderRange {
 }
 
 // The end is not 0 and below the start: refusal 11.
+#[tactic(auto, using(refusal::proofs::Tests::tests))]
 pub fn is_reversed(f: SenderRange) -> bool
     ensures { result ≡ reversed f }
 {
@@ -23,6 +24,7 @@ pub fn is_reversed(f: SenderRange) -> bool
 }
 
 // The range admits a sender.
+#[tactic(auto, using(refusal::proofs::Tests::tests))]
 pub fn admit(f: SenderRange, sender: u32) -> bool
     ensures { result ≡ admits f sender }
 {
@@ -39,6 +41,7 @@ pub fn admit(f: SenderRange, sender: u32) -> bool
 }
 
 // Two ranges are equal as written.
+#[tactic(auto, using(refusal::proofs::Tests::tests))]
 pub fn are_same(f: SenderRange, g: SenderRange) -> bool
     ensures { result ≡ same f g }
 {

@@ -66,10 +66,12 @@ fn is_head(s: &[u8]) -> bool
 fn is_datagram(digits: &[u8]) -> bool
     ensures { result ≡ is_datagram digits.now }
 {
-    if 2944 < digits.len() {
+    let is_long = 2944 < digits.len();
+    if is_long {
         return false;
     }
-    if digits.len() % 2 != 0 {
+    let is_odd = digits.len() % 2 != 0;
+    if is_odd {
         return false;
     }
     hexadecimal::is_hex(digits)

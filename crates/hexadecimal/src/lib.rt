@@ -7,6 +7,7 @@ ghost use Rattle.hexadecimal.specs.Hex.{digit, is_hex, octets_of, digit_of, digi
 ghost use Rattle.hexadecimal.specs.Hex.{number as number_from};
 
 // The value of a capital digit; 16 of any other octet.
+#[tactic(auto, using(refusal::proofs::Tests::tests))]
 fn value(x: u8) -> u8
     ensures { result ≡ digit x }
 {
@@ -88,6 +89,7 @@ pub fn decode(digits: &[u8], target: &mut [u8])
 }
 
 // The capital digit of a value.
+#[tactic(auto, using(refusal::proofs::Tests::tests))]
 fn capital(d: u8) -> u8
     requires { d < 16 }
     ensures { result ≡ digit_of d }

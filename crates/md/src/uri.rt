@@ -38,7 +38,8 @@ pub fn are_same(a: &[u8], b: &[u8]) -> bool
         if a[i] != b[i] {
             return false;
         }
-        if a[i] == 0 {
+        let has_ended = a[i] == 0;
+        if has_ended {
             return true;
         }
         i += 1;

@@ -57,7 +57,8 @@ fn state_of(n: u8, t: Timing) -> SessionState
     if n == 2 {
         return SessionState::OwingConfirm(t);
     }
-    if n == 3 {
+    let is_with_user = n == 3;
+    if is_with_user {
         return SessionState::WithUser(t);
     }
     if n == 4 {

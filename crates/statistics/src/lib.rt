@@ -34,7 +34,8 @@ pub fn count(c: Counters, outcome: u8) -> Counters
 {
     let mut d = c;
     d.received = one_more(c.received);
-    if outcome == 0 {
+    let is_delivered = outcome == 0;
+    if is_delivered {
         d.delivered = one_more(c.delivered);
         return d;
     }

@@ -266,6 +266,7 @@ pub fn state_of(r: Subscription) -> State
 }
 
 // Reading shows the substitute set: not valid, and behaviour substitute.
+#[tactic(auto, using(refusal::proofs::Tests::tests))]
 pub fn is_substituted(r: Subscription) -> bool
     ensures { result ≡ substitutes r }
 {

@@ -381,7 +381,8 @@ pub fn read_record(slots: usize, octets: usize, r: Subscription) -> Reading
 {
     if is_fit(slots, octets) {
         if r.used != 0 {
-            if 1432 < r.length {
+            let is_overlong = 1432 < r.length;
+            if is_overlong {
                 return Reading::Refused(refusal::SIZES);
             }
             return Reading::Shows(View {

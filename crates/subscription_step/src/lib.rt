@@ -106,7 +106,8 @@ fn on_clock(r: Subscription, t: Tally, time: u64, part: &mut [u8], dataset: &[u8
     ensures { Steps (Event.Clock time) dataset.now r t part.old result part.new }
 {
     if subscription::is_due(r, time) {
-        if r.behaviour == 0 {
+        let is_cleared = r.behaviour == 0;
+        if is_cleared {
             octets::clear(part);
             return Stepped {
                 slot: subscription::mark(r),

@@ -13,6 +13,7 @@ pub struct Timing {
 }
 
 // A span has passed since the start.
+#[tactic(auto, using(refusal::proofs::Tests::tests))]
 pub fn has_passed(start: u64, span: u32, now: u64) -> bool
     ensures { result ≡ passed start span now }
 {
@@ -23,6 +24,7 @@ pub fn has_passed(start: u64, span: u32, now: u64) -> bool
 }
 
 // The time is up.
+#[tactic(auto, using(refusal::proofs::Tests::tests))]
 pub fn is_up(t: Timing, now: u64) -> bool
     ensures { result ≡ time_up t now }
 {

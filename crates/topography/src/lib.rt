@@ -13,6 +13,7 @@ pub struct TopoCounts {
 }
 
 // A telegram's counter agrees with the local one.
+#[tactic(auto, using(refusal::proofs::Tests::tests))]
 fn agree(counter: u32, local: u32) -> bool
     ensures { result ≡ agrees counter local }
 {
@@ -23,6 +24,7 @@ fn agree(counter: u32, local: u32) -> bool
 }
 
 // op_trn_topo_cnt is not 0 beside etb_topo_cnt 0.
+#[tactic(auto, using(refusal::proofs::Tests::tests))]
 fn is_alone(telegram: TopoCounts) -> bool
     ensures { result ≡ alone telegram }
 {

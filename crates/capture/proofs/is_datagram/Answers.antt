@@ -2,22 +2,23 @@
 use mathlib.Core.Path.{refl}
 use mathlib.Core.List.{List}
 use Prim.Native.Nat.{ℕ, ◌%◌}
+use native.Mathlib.Omega.{arith}
 use lib.ListN.{length}
 use borrow.Author.Tests.{eq-eqb, ne_eqb, le-leb, lt-leb}
 use borrow.Author.Rules.{rules}
 use Rattle.capture.proofs.is_datagram.Goals as goal
 
-pub returns-then-digits-gt2944 : goal.returns-then-digits-gt2944
-returns-then-digits-gt2944 c =
+pub returns-then-is_long : goal.returns-then-is_long
+returns-then-is_long c =
     let d : List ℕ = c.args.digits.now in
-    rw (lt-leb (length d) 2944 c.if-digits-gt2944.true) refl
+    rw (lt-leb (length d) 2944 (omega arith)) refl
 
-pub returns-then-digits-ne0 : goal.returns-then-digits-ne0
-returns-then-digits-ne0 c =
+pub returns-then-is_odd : goal.returns-then-is_odd
+returns-then-is_odd c =
     let d : List ℕ = c.args.digits.now in
-    rw (le-leb (length d) 2944 c.if-digits-gt2944.false, ne_eqb (length d % 2) 0 c.if-digits-ne0.true) refl
+    rw (le-leb (length d) 2944 (omega arith), ne_eqb (length d % 2) 0 (omega arith)) refl
 
 pub returns : goal.returns
 returns c =
     let d : List ℕ = c.args.digits.now in
-    rw (le-leb (length d) 2944 c.if-digits-gt2944.false, eq-eqb (length d % 2) 0 c.if-digits-ne0.false) c.is_hex.ensures
+    rw (le-leb (length d) 2944 (omega arith), eq-eqb (length d % 2) 0 (omega arith)) c.is_hex.ensures
