@@ -5,7 +5,7 @@ use mathlib.Core.List.{List}
 use Prim.Native.Nat.{ℕ, zero, suc, ◌≤◌}
 use lib.ListN.{length}
 use native.Mathlib.Omega.{arith}
-use Rattle.refusal.specs.Refusal.{answer, after, first_of}
+use Rattle.refusal.specs.Refusal.{answer, first_of}
 use Rattle.refusal.proofs.Answer.{opened}
 use Rattle.telegram.specs.Telegram.{Wrote, checks}
 use Rattle.telegram.specs.declared.Family.TheVariants as family
@@ -26,7 +26,7 @@ use Rattle.dataset.specs.declared.Converted.{Converted}
 use Rattle.dataset.specs.declared.Converted.TheVariants as converted_to
 use Rattle.boundary.specs.declared.Outcome.{Outcome}
 use Rattle.boundary.specs.declared.Sending.{Sending}
-use Rattle.boundary.specs.Wire.{granted, refused, of_written, of_converted, of_sent, no_md_datagram, of_md_taken}
+use Rattle.boundary.specs.Wire.{of_written, of_converted, of_sent, no_md_datagram, of_md_taken}
 use Rattle.trdp.specs.Wire.{Writes, SendsOut, ConvertsTo}
 
 -- what is made of an answer is made of each of its cases

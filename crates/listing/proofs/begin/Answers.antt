@@ -1,5 +1,4 @@
 -- Slot 0 as it is granted, and nothing counted.
-use Rattle.std.proofs.Common.{rules}
 use Rattle.listing.proofs.begin.Goals as goal
 
 pub returns : goal.returns

@@ -1,5 +1,5 @@
 -- Each outcome has its own total.
-use Rattle.std.proofs.Common.{ℕ, ap, rules}
+use Rattle.std.proofs.Common.{ℕ, ap}
 use Rattle.listing.proofs.count.Goals as goal
 
 pub returns-in-Delivered : goal.returns-in-Delivered

@@ -1,5 +1,4 @@
 -- Each answer has its own outcome.
-use Rattle.std.proofs.Common.{rules}
 use Rattle.listing.proofs.outcome_of.Goals as goal
 
 pub returns-in-Refused : goal.returns-in-Refused

@@ -1,6 +1,5 @@
 -- The pieces one after the other.
 use Rattle.answer.proofs.Rooms.{◌⨟◌}
-use Rattle.std.proofs.Common.{rules}
 use Rattle.listing.proofs.put_refusal.Goals as goal
 
 pub returns : goal.returns

@@ -1,5 +1,5 @@
 -- The pieces one after the other.
-use Rattle.std.proofs.Common.{ap, rules}
+use Rattle.std.proofs.Common.{ap}
 use Rattle.answer.specs.Answer.{decimal}
 use Rattle.answer.proofs.Rooms.{pieces, ◌⨟◌}
 use Rattle.listing.proofs.put_total.Goals as goal

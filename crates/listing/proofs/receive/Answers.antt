@@ -1,5 +1,5 @@
 -- The datagram's octets are the buffer's first; what slot 0 does with it is by its own contract.
-use Rattle.std.proofs.Common.{sym, refl, ap, ◌∙◌, length-take-le, rules}
+use Rattle.std.proofs.Common.{sym, refl, ap, ◌∙◌, length-take-le}
 use Rattle.subscription_table.specs.Table.{Answer}
 use Rattle.subscriptions.specs.Receive.{recorded}
 use Rattle.listing.specs.Listing.{outcome_of}

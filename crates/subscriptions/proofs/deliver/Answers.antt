@@ -1,7 +1,7 @@
 -- Sizes, then the first refusal of 2 to 7, then every slot.
 use Rattle.std.proofs.Common.{sym, ◌∙◌}
 use Rattle.subscriptions.proofs.Granting.{unfit-follows}
-use Rattle.subscriptions.proofs.Arriving.{has-header, has-dataset, refused-follows, received-follows}
+use Rattle.subscriptions.proofs.Arriving.{refused-follows, received-follows}
 use Rattle.subscriptions.proofs.deliver.Goals as goal
 
 pub returns-then-is_unfit : goal.returns-then-is_unfit

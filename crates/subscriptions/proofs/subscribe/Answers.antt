@@ -1,6 +1,5 @@
 -- Each return follows one case of the rule: sizes, what is denied, what is granted.
-use Rattle.std.proofs.Common.{◌≡◌, ◌+◌, ◌*◌, ◌<◌, ◌≤◌, false, length, sym, ◌∙◌, arith}
-use Rattle.subscriptions.specs.Search.{found_in}
+use Rattle.std.proofs.Common.{length, sym, ◌∙◌, arith}
 use Rattle.subscription_table.proofs.Lent.{fits-means}
 use Rattle.subscriptions.proofs.Granting.{request, fit, unfit-follows, denied-follows, slot-there, granted-follows}
 use Rattle.subscriptions.proofs.subscribe.Goals as goal
@@ -17,7 +16,7 @@ returns-then-is_denied c =
     let yes = rw d at (sym c.is_denied.ensures ∙ c.if-is_denied.true) in
     rw d
     (denied-follows (request a.f a.timeout a.behaviour) a.time a.t.now a.store.now
-      (sym c.is_unfit.ensures ∙ c.if-is_unfit.false) yes)
+    (sym c.is_unfit.ensures ∙ c.if-is_unfit.false) yes)
 
 pub prepare-r-requires : goal.prepare-r-requires
 prepare-r-requires c =
@@ -26,7 +25,7 @@ prepare-r-requires c =
     let no = rw d at (sym c.is_denied.ensures ∙ c.if-is_denied.false) in
     rw c.search-s.ensures
     (slot-there (request a.f a.timeout a.behaviour) a.time a.t.now a.store.now
-      (sym c.is_unfit.ensures ∙ c.if-is_unfit.false) no).1
+    (sym c.is_unfit.ensures ∙ c.if-is_unfit.false) no).1
 
 pub bounds-t-k : goal.bounds-t-k
 bounds-t-k c =
@@ -35,7 +34,7 @@ bounds-t-k c =
     let no = rw d at (sym c.is_denied.ensures ∙ c.if-is_denied.false) in
     rw c.search-s.ensures
     (slot-there (request a.f a.timeout a.behaviour) a.time a.t.now a.store.now
-      (sym c.is_unfit.ensures ∙ c.if-is_unfit.false) no).0
+    (sym c.is_unfit.ensures ∙ c.if-is_unfit.false) no).0
 
 pub offset_bounds-t-k : goal.offset_bounds-t-k
 offset_bounds-t-k c =
@@ -54,4 +53,4 @@ returns c =
     let no = rw d at (sym c.is_denied.ensures ∙ c.if-is_denied.false) in
     rw (d, c.prepare-r.ensures.0, c.prepare-r.ensures.1, c.search-s.ensures)
     (granted-follows (request a.f a.timeout a.behaviour) a.time a.t.now a.store.now
-      (sym c.is_unfit.ensures ∙ c.if-is_unfit.false) no)
+    (sym c.is_unfit.ensures ∙ c.if-is_unfit.false) no)

@@ -29,7 +29,7 @@ loop-i-smaller c =
     let b = lt-ltb l.i (length a.t.now) (omega (arith, c.loop-i-test.true, l.auto.t)) in
     rw (c.next_concerned-i-in-loop-i.ensures, c.step_at-m.ensures.0)
     (slots.nearer a.ev a.dataset.now a.t.now a.store.now l.invariant.sized l.c l.i l.t l.store l.auto.t l.auto.store
-      l.invariant b)
+    l.invariant b)
 
 pub loop-i-preserved : goal.loop-i-preserved
 loop-i-preserved c =
@@ -38,7 +38,7 @@ loop-i-preserved c =
     let b = lt-ltb l.i (length a.t.now) (omega (arith, c.loop-i-test.true, l.auto.t)) in
     rw (c.next_concerned-i-in-loop-i.ensures, c.step_at-m.ensures.0, c.step_at-m.ensures.1)
     (slots.goes_on a.ev a.dataset.now a.t.now a.store.now l.invariant.sized l.c l.i l.t l.store l.auto.t l.auto.store
-      l.invariant b)
+    l.invariant b)
 
 pub returns : goal.returns
 returns c =
@@ -47,4 +47,4 @@ returns c =
     let b = le-ltb l.i (length a.t.now) (omega (arith, c.loop-i-test.false, l.auto.t)) in
     rw c.done.ensures
     (slots.swept a.ev a.dataset.now a.t.now a.store.now l.invariant.sized l.c l.i l.t l.store l.auto.t l.auto.store
-      l.invariant b)
+    l.invariant b)

@@ -1,6 +1,5 @@
 -- What the call over the octets answers and leaves.
 use Rattle.trdp.proofs.Messages.{arrives}
-use borrow.Author.Rules.{rules}
 use Rattle.trdp.proofs.arrive_md.Goals as goal
 
 pub returns : goal.returns

@@ -1,6 +1,5 @@
 -- What the check over the octets answers and leaves.
 use Rattle.trdp.proofs.Messages.{checks}
-use borrow.Author.Rules.{rules}
 use Rattle.trdp.proofs.trdp_check_sessions.Goals as goal
 
 pub returns : goal.returns

@@ -1,6 +1,5 @@
 -- What the call over the octets answers and leaves.
 use Rattle.trdp.proofs.Messages.{follows}
-use borrow.Author.Rules.{rules}
 use Rattle.trdp.proofs.trdp_reply.Goals as goal
 
 pub returns : goal.returns

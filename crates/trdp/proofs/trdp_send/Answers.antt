@@ -1,6 +1,5 @@
 -- What sending answers and leaves.
 use Rattle.trdp.proofs.Answers.{sent}
-use borrow.Author.Rules.{rules}
 use Rattle.trdp.proofs.trdp_send.Goals as goal
 
 pub returns : goal.returns

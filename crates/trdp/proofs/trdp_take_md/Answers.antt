@@ -3,7 +3,6 @@ use mathlib.Core.Path.{◌∙◌, ap}
 use native.Mathlib.Omega.{arith}
 use Rattle.boundary.specs.Wire.{no_md_datagram}
 use Rattle.trdp.proofs.Answers.{not_taken, has-header}
-use borrow.Author.Rules.{rules}
 use Rattle.trdp.proofs.trdp_take_md.Goals as goal
 
 pub returns-in_default : goal.returns-in_default

@@ -1,5 +1,4 @@
 -- What taking apart answers.
-use borrow.Author.Rules.{rules}
 use Rattle.trdp.proofs.trdp_take_pd.Goals as goal
 
 pub returns : goal.returns

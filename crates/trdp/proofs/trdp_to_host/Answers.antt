@@ -1,6 +1,5 @@
 -- What the conversion answers and leaves.
 use Rattle.trdp.proofs.Answers.{converted}
-use borrow.Author.Rules.{rules}
 use Rattle.trdp.proofs.trdp_to_host.Goals as goal
 
 pub returns : goal.returns

@@ -1,6 +1,5 @@
 -- What the writer answers and leaves.
 use Rattle.trdp.proofs.Answers.{wrote}
-use borrow.Author.Rules.{rules}
 use Rattle.trdp.proofs.trdp_write_pd.Goals as goal
 
 pub returns : goal.returns
