@@ -7,7 +7,9 @@ use Rattle.scenario_md_words.proofs.put_codes.Given as goal
 
 abbrev pub invariant-loop-i : goal.invariant-loop-i
 invariant-loop-i l =
-    (l.i ≤ 16) × (length l.out ≡ length l.initial.out) × (left l.codes l.i l.p l.out ≡ left l.codes 0 l.initial.p l.initial.out)
+    (l.i ≤ 16)
+    × (length l.out ≡ length l.initial.out)
+    × (left l.codes l.i l.p l.out ≡ left l.codes 0 l.initial.p l.initial.out)
 
 abbrev pub decreases-loop-i : goal.decreases-loop-i
 decreases-loop-i l = 16 - l.i
