@@ -1,5 +1,5 @@
-/* Wheeltallow: TRDP (IEC 61375-2-3 Annex A) for a host in C. Link target/staticlib/libtrdp.a, which `rt staticlib trdp` makes;
-   it needs no other library.
+/* Wheeltallow: TRDP (IEC 61375-2-3 Annex A) for a host in C. Link crates/trdp/out/libtrdp.a, which `rt lib` in crates/trdp
+   makes; it needs no other library.
 
    The host has the sockets, the addresses and the clock, and lends all memory; nothing is kept between two calls. Every call
    ends, whatever it is given, and a refused call leaves all that was lent to it as it was (statistics aside, which count each

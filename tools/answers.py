@@ -196,6 +196,7 @@ class Turn:
             return m.group(0)
 
         text = chain.sub(one, text)
+        text = re.sub(r"(\.wrapping_\w+[\w-]*\.ensures)(?![.\w])", r"\1.value", text)
         text = re.sub(r"(-arg[-\d]*\.given)\.0(?!\d)", r"\1", text)
         text = re.sub(r"\.(type|well|auto|no)-(inv|formed|deeper)(?![\w-])", r".\1_\2", text)
         for old, new in self.renamed:

@@ -21,12 +21,21 @@ def rows():
         yield "        },"
 
 
+def goal(j, k):
+    """The name of the goal at an arm: the inner match of each place has a number of its own."""
+    return f"returns-in-{k}-{j + 2}" if k < 15 else f"returns-in_default-{j + 2}"
+
+
 def answers():
     for j in range(16):
-        place = f"c .before .match .keys{j + 1}" if j < 15 else "left (c .before .before .pre) (c .before .match .rest)"
+        place = f"c.in-{j}.is" if j < 15 else "(left c.requires c.in_default.in_default-own.rest)"
         for k in range(16):
-            half = f"c .match{j + 2} .keys{k + 1}" if k < 15 else f"left (omega arith) (c .match{j + 2} .rest)"
-            yield f"    (λ c. at {j} {k} ({place}) ({half}))"
+            arm_at = f"in-{k}-{j + 2}" if k < 15 else f"in_default-{j + 2}"
+            half = f"c.{arm_at}.is" if k < 15 else f"(left (omega arith) c.{arm_at}.{arm_at}-own.rest)"
+            yield f"pub {goal(j, k)} : goal.{goal(j, k)}"
+            yield "unfolding bits bit"
+            yield f"{goal(j, k)} c = at {j} {k} {place} {half}"
+            yield ""
 
 
 def rewrite(path, start, lines, end):
@@ -35,4 +44,4 @@ def rewrite(path, start, lines, end):
 
 
 rewrite("crates/fcs_steps/src/lib.rt", "    match j {\n", rows(), "\n    }\n}\n")
-rewrite("crates/fcs_steps/proofs/entry/Proof.antt", "    (tie.spec\n", answers(), ")\n")
+rewrite("crates/fcs_steps/proofs/entry/Answers.antt", "reaches 15 x n)\n\n", answers(), "")

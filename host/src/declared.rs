@@ -106,7 +106,11 @@ fn functions(text: &str) -> Declared {
 fn structs(text: &str) -> Declared {
     let mut declared = Declared::new();
     for after in text.split("#[repr(C)]").skip(1) {
-        let (name, rest) = after.trim_start().strip_prefix("pub struct ").expect("a struct").split_once(' ').expect("fields");
+        let mut after = after.trim_start();
+        while let Some(attribute) = after.strip_prefix('#') {
+            after = bracketed(attribute).1.trim_start();
+        }
+        let (name, rest) = after.strip_prefix("pub struct ").expect("a struct").split_once(' ').expect("fields");
         let field = |item: String| {
             let (name, of) = item.strip_prefix("pub ").expect("public").split_once(": ").expect("a type");
             format!("{} {name}", in_c(of).concat())

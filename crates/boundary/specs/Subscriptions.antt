@@ -1,5 +1,5 @@
 -- The answers of the calls on the subscription table, as structs of numbers.
-use Rattle.std.specs.Prelude.{ℕ, ◌*◌, Bool, true, false, cond, length}
+use Rattle.std.specs.Prelude.{ℕ, ◌*◌, Bool, true, false, cond}
 use Rattle.subscription_table.specs.Slot.{slot_octets}
 use Rattle.subscription_table.specs.Table as table
 use Rattle.subscription_table.specs.Table.{telegram}

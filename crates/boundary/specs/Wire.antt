@@ -1,6 +1,5 @@
 -- The answers of the calls on telegrams, publications and datasets, as structs of numbers: refusal 0 means granted; a refusal has its number and no other content.
-use Rattle.std.specs.Prelude.{ℕ, List, pos, length, replicate}
-use Rattle.refusal.specs.Refusal.{answer, after}
+use Rattle.std.specs.Prelude.{ℕ, List, pos, replicate}
 use Rattle.octets.specs.Octets.{part}
 use Rattle.telegram.specs.declared.Common.{Common}
 use Rattle.telegram.specs.declared.Written.{Written}

@@ -29,7 +29,7 @@ use Rattle.session_table.specs.Table.{Tables}
 use Rattle.session.specs.Listener as Listeners
 use Rattle.session.specs.Session.{free_session, is_free, waits_for_reply, owes_confirm, is_with_user, waits_for_confirm, has, code_of, expired}
 use Rattle.session.specs.Session.{can_take, answered, is_reply}
-use Rattle.session_table.specs.Table.{Call, listen, unlisten, calling, telegram, reply, confirm, time_check, Answer, listening, freed, opened, requested, taken, replied, confirmed, refused, refused_plain, listen_checks, earlier, unlistened, Heard, Judged, refusal, passed, judged, judged_by, heard_of, md_checks, Kind, mn, mr, mp, mq, mc, me, kind_of, opening, taken_at, taking, ended, owing, at_session, with_sessions, notifying, requesting, arriving, step, empty_tables}
+use Rattle.session_table.specs.Table.{Call, listen, unlisten, calling, telegram, reply, confirm, time_check, Answer, listening, freed, opened, requested, replied, confirmed, refused, refused_plain, listen_checks, earlier, unlistened, Heard, Judged, refusal, passed, judged, judged_by, heard_of, md_checks, Kind, mn, mr, mp, mq, mc, me, kind_of, opening, taken_at, taking, ended, owing, at_session, with_sessions, notifying, requesting, arriving, step, empty_tables}
 use Rattle.isolation.specs.Alone.{slot_at, fed, heard, heard_alone, numbered, session_watch, opened_at, identifier, concerns, own_telegram, OneSession}
 use Rattle.isolation.proofs.Identifiers.{and_left, equal-same, equal-refl}
 use Rattle.isolation.proofs.Kept.{Kept, kept-own, kept-other, has-busy, same_id, kept-ended, kept-owing, kept-answered, kept_at, kept-expired}

@@ -1,9 +1,1 @@
-pub mod Own
-pub mod Values
 pub mod Serving
-pub mod AsAtMost
-pub mod AsSubscribe
-pub mod AsUnsubscribe
-pub mod AsTimeCheck
-pub mod AsRead
-pub mod AsReceive

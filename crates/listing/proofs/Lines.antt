@@ -1,6 +1,6 @@
 -- What a line that was read tells of the listing.
 -- Assumes nothing.
-use Rattle.std.proofs.Common.{◌≡◌, ℕ, ◌+◌, ◌≤◌, Bool, true, false, cond, List, length, take, drop, sym, refl, ap, ◌∙◌, subst, ap₂, arith, take_at}
+use Rattle.std.proofs.Common.{◌≡◌, ℕ, ◌+◌, Bool, true, false, cond, List, length, take, drop, refl, ap, ◌∙◌, subst, ap₂, arith, take_at}
 use Rattle.octets.specs.Octets.{put}
 use Rattle.capture.specs.declared.Frame.{Frame}
 use Rattle.capture.specs.declared.FrameLine.{FrameLine}

@@ -106,7 +106,8 @@ fn owe_confirm(octets: &mut [u8; 1280], m: Message) -> Answer
 fn follow(octets: &mut [u8; 1280], m: Message, destination: &[u8]) -> Answer
     ensures { Gives octets.old (arriving (kind_of m.msg_type) (hearing (heard_by m destination.now) (tables_of octets.old).listeners) (heard_by m destination.now) (tables_of octets.old).sessions) result octets.new }
 {
-    if m.msg_type == session::MN {
+    let is_notification = m.msg_type == session::MN;
+    if is_notification {
         return notify(octets, m, destination);
     }
     if m.msg_type == session::MR {

@@ -19,7 +19,7 @@ pub struct Outcome {
 // So many of the numbers lent, or all where they are fewer.
 fn within(n: usize, run: &[u32]) -> usize
     ensures prefix_len { IsPrefixLen result run.now }
-    ensures run_value { take result run.now ≡ take n run.now }
+    ensures taken { take result run.now ≡ take n run.now }
 {
     if n <= run.len() {
         return n;

@@ -1,7 +1,6 @@
 -- What a line of these verbs asks, field by field.
 use Rattle.std.specs.Prelude.{ℕ, cond, List}
 use Rattle.std.proofs.Math.Option.{Option, none}
-use Rattle.arrival.specs.declared.Arrival.{Arrival}
 use Rattle.topography.specs.declared.TopoCounts.{TopoCounts}
 use Rattle.answer.specs.Answer.{ascii}
 use Rattle.line.specs.Line.{verb_is, read_to, with_number, with_field, with_end, with_octets, eight, four}

@@ -18,7 +18,7 @@ fn put_opened(out: &mut [u8], at: usize, l: usize, k: usize) -> usize
     answer::decimal(out, p, k as u64)
 }
 
-// A telegram of a session: reply_status, and its slot.
+// A telegram of a session: replyStatus, and its slot.
 fn put_taken(out: &mut [u8], at: usize, status: i32, k: usize) -> usize
     ensures { Puts (answer_words (taken status k)) at out.old result out.new }
 {

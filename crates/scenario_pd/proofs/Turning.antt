@@ -13,7 +13,7 @@ use Rattle.arrival.specs.declared.Arrival.{Arrival}
 use Rattle.statistics.specs.declared.Statistics.{Statistics}
 use Rattle.line.specs.declared.Field.{Field}
 use Rattle.line.specs.Line.{read_to, number_field, ends, with_octets, eight}
-use Rattle.answer.specs.Answer.{room, Puts, Answers}
+use Rattle.answer.specs.Answer.{room, Puts}
 use Rattle.line.proofs.Fields.{first-number, number_read}
 use Rattle.answer.proofs.Rooms.{pieces, answered}
 use Rattle.subscription.specs.declared.Subscription.{Subscription}

@@ -1,18 +1,18 @@
 -- From a sweep to the table's rules: a telegram that passed, and the clock, at every slot.
 -- Assumes nothing.
-use Prim.Native.Nat.{ℕ, zero, suc, ◌+◌, ◌*◌, ◌≤◌}
+use Prim.Native.Nat.{ℕ, suc, ◌+◌, ◌*◌, ◌≤◌}
 use native.Mathlib.Omega.{arith}
 use native.Mathlib.Nat.{zero-add, zero-mul, suc-mul}
-use mathlib.Core.Path.{◌≡◌, refl, sym, ◌∙◌, ap}
+use mathlib.Core.Path.{◌≡◌, refl, ◌∙◌, ap}
 use mathlib.Core.List.{List, [], ◌∷◌, ◌++◌, map}
-use mathlib.Core.Bool.{Bool, true, false, cond, ◌&&◌, ◌||◌}
-use lib.Dec.{leb, ltb}
+use mathlib.Core.Bool.{Bool, true, false, cond, ◌||◌}
+use lib.Dec.{ltb}
 use lib.ListN.{length, take, drop, length-drop}
 use lib.Seq.{length-take-le}
 use borrow.Author.Tests.{le-leb, lt-ltb}
 use Rattle.tables.specs.Lists.{count, any}
 use Rattle.subscription.specs.Record.{record_wants, record_takes, record_due}
-use Rattle.subscription_table.specs.Slot.{Cell, Judged, judged, passed, slot_octets, wants, takes, deliver, due, mark}
+use Rattle.subscription_table.specs.Slot.{Cell, judged, passed, slot_octets, deliver, mark}
 use Rattle.subscription_step.specs.Step.{record_after, part_after, changes, reaches, one, tallied}
 use Rattle.subscription_table.specs.Table as table
 use Rattle.subscription_table.specs.Table.{Call, telegram, time_check, delivered_to, parts, records, store, slots, fits, step}

@@ -1,18 +1,18 @@
 -- Subscribing, in terms of the table's rules.
 -- Assumes nothing.
-use Prim.Native.Nat.{ℕ, zero, suc, ◌+◌, ◌*◌, ◌<◌, ◌≤◌}
+use Prim.Native.Nat.{ℕ, suc, ◌+◌, ◌*◌, ◌<◌, ◌≤◌}
 use native.Mathlib.Omega.{arith}
 use native.Mathlib.Nat.{suc-mul, mul-le-mul_right}
-use mathlib.Core.Path.{◌≡◌, refl, sym, ◌∙◌, ap}
-use mathlib.Core.List.{List, [], ◌∷◌, ◌++◌}
-use mathlib.Core.Bool.{Bool, true, false, cond, not, true≢false, false≢true}
+use mathlib.Core.Path.{◌≡◌, refl, sym}
+use mathlib.Core.List.{List, [], ◌∷◌}
+use mathlib.Core.Bool.{Bool, true, false, not, true≢false, false≢true}
 use mathlib.Core.Option.{Option, none, some}
 use lib.ListN.{length, drop, set}
-use Rattle.tables.specs.Lists.{any, lowest, next, grant}
+use Rattle.tables.specs.Lists.{any, lowest, grant}
 use Rattle.tables.proofs.Lists.{lowest-is}
 use Rattle.subscription.specs.Record.{in_use, free_record, unsound, granted_record}
-use Rattle.subscription_table.specs.Slot.{Cell, Request, slot_octets, granted_cell}
-use Rattle.subscription_table.specs.Table.{Call, Table, fits, parts, records, store, subscribe, granted, refused, early, holds, lent_after, slots, step}
+use Rattle.subscription_table.specs.Slot.{Request, slot_octets, granted_cell}
+use Rattle.subscription_table.specs.Table.{Call, fits, parts, subscribe, granted, refused, early, holds, lent_after, slots, step}
 use Rattle.subscription.specs.declared.Filter.{Filter}
 use Rattle.subscription.specs.declared.Subscription.{Subscription}
 use Rattle.subscription_table.proofs.Flat.{records-parts, store-parts, records-set, store-set}

@@ -11,7 +11,7 @@ use Rattle.statistics.specs.declared.Statistics.{Statistics}
 use Rattle.statistics.specs.Statistics.{added, no_statistics, Arrived, after_all}
 use Rattle.statistics.proofs.History.{of-history, many, same, received-counts, delivered-counts, refused-counts}
 use Rattle.subscription_table.specs.Table.{Call, subscribe, unsubscribe, telegram, time_check, read, Answer, Table, step}
-use Rattle.subscriptions.specs.Receive.{recorded, statistics_after, statistics_over, entered, history}
+use Rattle.subscriptions.specs.Receive.{statistics_after, statistics_over, entered, history}
 use Rattle.subscription_decisions.specs.Receive.{uncounted, outcome_of}
 
 counted-first : (b : Bool) (o : ℕ) (more : List Arrived) (s : Statistics)

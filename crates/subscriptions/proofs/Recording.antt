@@ -21,7 +21,7 @@ use Rattle.subscription_decisions.specs.declared.Answer.{Answer}
 use Rattle.subscription_decisions.specs.declared.Answer.TheVariants.{Granted, Freed, Delivered, Marked, Refused}
 use Rattle.subscription_decisions.specs.Calls.{meaning, delivered_by}
 use Rattle.subscription_decisions.specs.Named.{no_slot}
-use Rattle.subscriptions.specs.Receive.{Receives, recorded}
+use Rattle.subscriptions.specs.Receive.{Receives}
 use Rattle.subscription_decisions.specs.Receive.{uncounted, outcome_of}
 use Rattle.subscriptions.proofs.Granting.{unfit-follows}
 use Rattle.subscriptions.proofs.Arriving.{payload, refused-follows, received-follows}

@@ -10,12 +10,11 @@ use lib.Dec.{leb}
 use lib.ListN.{length, take, drop, get_or, set, replicate, length-replicate, take-append-drop}
 use lib.Seq.{set_out, drop-drop}
 use borrow.Author.Tests.{leb-true, leb-false}
-use Rattle.octets.specs.Octets.{put}
 use Rattle.tables.specs.Lists.{at_slot}
 use Rattle.tables.proofs.Arrays.{past}
 use Rattle.subscription.specs.Record.{in_use, free_record}
 use Rattle.subscription_table.specs.Slot.{Cell, slot_octets, free_cell}
-use Rattle.subscription_table.specs.Table.{Table, fits, parts, records, store, unsubscribe, unsubscribed, slots, step}
+use Rattle.subscription_table.specs.Table.{Table, fits, parts, unsubscribe, unsubscribed, slots, step}
 use Rattle.subscription.specs.declared.Subscription.{Subscription}
 use Rattle.subscription_table.proofs.Flat.{records-parts, store-parts, named_flat}
 use Rattle.subscription_table.proofs.Lent.{fits-means}

@@ -5,7 +5,7 @@ use mathlib.Core.List.{List}
 use Prim.Native.Nat.{ℕ, zero, suc, ◌≤◌}
 use lib.ListN.{length}
 use native.Mathlib.Omega.{arith}
-use Rattle.refusal.specs.Refusal.{answer, after, first_of}
+use Rattle.refusal.specs.Refusal.{answer, first_of}
 use Rattle.refusal.proofs.Answer.{opened}
 use Rattle.telegram.specs.Telegram.{Wrote, checks}
 use Rattle.telegram.specs.declared.Family.TheVariants as family
@@ -23,9 +23,10 @@ use Rattle.publication.specs.declared.Sent.{Sent}
 use Rattle.publication.specs.Publication.{Sends}
 use Rattle.dataset.specs.Walk.{Walked, Converts, refusal_of as walk_refusal}
 use Rattle.dataset.specs.declared.Converted.{Converted}
+use Rattle.dataset.specs.declared.Converted.TheVariants as converted_to
 use Rattle.boundary.specs.declared.Outcome.{Outcome}
 use Rattle.boundary.specs.declared.Sending.{Sending}
-use Rattle.boundary.specs.Wire.{granted, refused, of_written, of_converted, of_sent, no_md_datagram, of_md_taken}
+use Rattle.boundary.specs.Wire.{of_written, of_converted, of_sent, no_md_datagram, of_md_taken}
 use Rattle.trdp.specs.Wire.{Writes, SendsOut, ConvertsTo}
 
 -- what is made of an answer is made of each of its cases
@@ -34,7 +35,7 @@ answer-of f g r zero x = refl
 answer-of f g r (suc v) x = refl
 
 pub wrote : (v : ℕ) (t o : List ℕ) (w : Written) (r : Outcome) (m : List ℕ) → r ≡ of_written w → Wrote v t o w m → Writes v t o r m
-wrote v t o w r m e x = record { answers = e ∙ ap of_written x.answers ∙ answer-of of_written _ _ v (length t); leaves = x.leaves }
+wrote v t o w r m e x = record { answers = e ∙ ap of_written x.answers ∙ answer-of of_written Octets written.Refused v (length t); leaves = x.leaves }
 
 pub sent : (v : ℕ) (p : Publication) (time : ℕ) (s o : List ℕ) (q : Sent) (r : Sending) (m : List ℕ) → r ≡ of_sent q.answer q.publication → Sends v p time s o q m → SendsOut v p time s o r m
 sent v p time s o q r m e x =
@@ -45,7 +46,7 @@ sent v p time s o q r m e x =
 
 pub converted : (w : Walked) (n : ℕ) (o : List ℕ) (c : Converted) (r : Outcome) (m : List ℕ) → r ≡ of_converted c → Converts w n o c m → ConvertsTo w n o r m
 converted w n o c r m e x =
-    record { answers = e ∙ ap of_converted x.answers ∙ answer-of of_converted _ _ (walk_refusal w n (length o)) n; leaves = x.leaves }
+    record { answers = e ∙ ap of_converted x.answers ∙ answer-of of_converted converted_to.Octets converted_to.Refused (walk_refusal w n (length o)) n; leaves = x.leaves }
 
 -- ---- an MD datagram taken apart
 

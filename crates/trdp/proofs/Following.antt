@@ -1,6 +1,6 @@
 -- The answers of the calls on the subscription table, in terms of the table's rules.
 -- Assumes nothing.
-use Prim.Native.Nat.{ℕ, ◌*◌, ◌<◌, ◌≤◌}
+use Prim.Native.Nat.{ℕ, ◌<◌, ◌≤◌}
 use native.Mathlib.Omega.{arith}
 use mathlib.Core.Path.{◌≡◌, refl, sym, ap, ◌∙◌}
 use mathlib.Core.List.{List}
@@ -23,7 +23,6 @@ use Rattle.subscription_decisions.specs.Read.{read_by, shown}
 use Rattle.subscriptions.specs.Receive.{recorded, Receives as TableReceives}
 use Rattle.subscription_decisions.specs.declared.Answer.{Answer}
 use Rattle.subscription_decisions.specs.declared.Answer.TheVariants.{Granted, Freed, Delivered, Marked, Refused}
-use Rattle.subscription_decisions.specs.declared.Reading.{Reading}
 use Rattle.subscription_decisions.specs.declared.Reading.TheVariants as reading
 use Rattle.subscription_decisions.specs.declared.View.{View}
 use Rattle.subscriptions.proofs.Viewing.{reads, not_there}

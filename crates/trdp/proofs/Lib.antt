@@ -1,11 +1,3 @@
 pub mod Answers
-pub mod Values
 pub mod Following
-pub mod AsOfAnswer
-pub mod AsSubscribe
-pub mod AsUnsubscribe
-pub mod AsTimeCheck
-pub mod AsReceive
-pub mod AsOfReading
 pub mod Messages
-pub mod AsArriveMd

@@ -11,7 +11,6 @@ use Rattle.subscription_decisions.specs.Read.{read_by}
 use Rattle.subscriptions.specs.Receive.{recorded}
 use Rattle.boundary.specs.declared.Outcome.{Outcome}
 use Rattle.boundary.specs.declared.Shown.{Shown}
-use Rattle.boundary.specs.Wire.{refused}
 use Rattle.boundary.specs.Subscriptions.{outcome_of, of_reading}
 
 -- a call over lent records and store

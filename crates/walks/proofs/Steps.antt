@@ -2,53 +2,51 @@
 -- Assumes `Logic`.
 use mathlib.Core.Path.{◌≡◌, refl, sym, ◌∙◌, ap, subst}
 use mathlib.Core.Option.{Option, some as someᴼ, none as noneᴼ}
-use Prim.Native.Nat.{ℕ, zero, ◌+◌, ◌<◌, ◌≤◌}
+use Prim.Native.Nat.{ℕ, ◌+◌, ◌<◌, ◌≤◌}
 use mathlib.Core.Bool.{Bool, true, false, not}
-use mathlib.Core.List.{[], ◌∷◌, List}
+use mathlib.Core.List.{[], ◌∷◌, List, mem-append_left}
 use lib.ListN.{length, set, get_or, length-set, take, drop as skips-to}
 use lib.Dec.{T}
 use lib.WfN.{lt-wf_rel}
 use mathlib.Core.WellFounded.InvImage
 use seplogic.Ra.Ura.{Ura}
-use seplogic.Ra.TreeShare.{full_share}
-use mir.Syntax.{Name, erased, w8, Ty, Width, Place, Rv as RValue, Body, Lifetime, Opd as Operand, ty_int, ty_bool, ty_unit, deref, place as placeᴹ, copy, seq, assign, block, loop, skip, exit, cond, call, rv_opd}
-use mir.Val.{Val, vbool, vint, vptr, vunit, has_ty, WT}
+use base.Fraction.{full_share}
+use mir.Syntax.{Callee, erased, w8, Ty, Place, Rv as RValue, Body, Lifetime, Opd as Operand, deref, place as placeᴹ, copy, seq, assign, block, loop, skip, exit, cond, call, rv_opd}
+use mir.Val.{Val, vbool, vptr, has_ty, WT}
 use base.Logic.{SProp, ent, sep, emp, ex, guard, id⊢}
-use base.Fml.{Fml, Lft, Share, GName, ftrue, fsep, fat, froom, fdies, flft, fdead, fobs, fauth, fbor, fobor, flent, fres}
-use prog.Wp.{Heap, Out, next, Env, Spot, spot_of, Calls, Loops, Wp, Tables, after_seq, after_block, after_turn}
-use types.Logic.{Logic, sem}
+use base.Fml.{Incl, Incl-refl, fhide, Fml, Lft, Share, GName, ftrue, fsep, fat, froom, fdies, flft, fobs, fauth, fobor, flent, fres}
+use prog.Wp.{Heap, Out, next, Env, spot_of, Calls, Loops, Wp, Tables, after_seq, after_block, after_turn}
+use types.Logic.{Logic, sem, lfts}
 use contract.Monad.{fact}
-use types.Kit.{Item, ‵, raw, some, given, later, ◌⊛◌, ⋆, mean, Seq, Step, Post, post, Goal, Soaks, runs, lands, settles, frees, prop, any_q, step, ◌$◌, ◌∵◌, !, qed, by, move, keep, drop, use0, use1, use2, use3, split, join, pick, learn, rewrite, fsplit, fjoin, fsplit3, fjoin3, feq_l, feq_i, frame, await, updating, now as at_once, show, done}
-use types.Run.{Reads, Writes, Opd, Opds, Rv, Finds, look, look_raw, store_raw, forget, stop, hop, from, load, of_opd, assigns, first, branches, skips, blocks, loops, again, Below, stays, leaves_loop, free1, free0, exec}
+use types.Kit.{Item, ‵, raw, some, given, later, ◌⊛◌, mean, Seq, Step, Post, post, Goal, Soaks, runs, lands, settles, frees, prop, any_q, step, ◌$◌, ◌∵◌, !, qed, by, move, drop, use0, use1, use2, use3, split, join, pick, learn, rewrite, fsplit, fjoin, fsplit3, fjoin3, feq_l, feq_i, await, updating, now as at_once, show, done}
+use types.Run.{Reads, Writes, Opd, Opds, Rv, look_raw, store_raw, forget, stop, hop, from, load, of_opd, assigns, first, branches, skips, blocks, loops, again, Below, stays, leaves_loop, free1, free0, exec}
 use types.Tokens.{lft_new, lft_end}
-use types.SemTy.{cells, Arr, Body as BodyOf}
-use types.Share.{arr_parts}
+use types.SemTy.{cells, Arr}
 use sound.WpLaws.{FmC}
-use denote.RattleType.{RattleType}
-use denote.Shadow.{shadow, pure_l, pure_i, makes_shadow}
-use denote.Laws.{Is, Tells, Makes, Typed, Copy, shows}
-use denote.Lowered as lowered
-use denote.Memory.{mem, shares, cell_at}
+use ghost.Rules.{Toks, span}
+use denote.RattleType.{RattleType, RowLaws}
+use denote.Shares.{Shares}
+use denote.Copied.{Copied}
+use denote.Shadow.{shadow, pure_l, pure_i}
+use denote.Laws.{Is, shows}
+use denote.Memory.{mem, cell_at}
 use denote.Builtin.{u8}
-use denote.Plain.{uint_Tells, uint_copy}
-use denote.Ref.{MutBor, MutRef}
-use denote.Slice.{slice_val, MutSlice, ShrSlice, shr_slice_copy, Room, heres, coded_holeys, finally, shr_slice_at, mut_slice_at}
+use denote.Plain.{uint_row_laws}
+use denote.Ref.{Bor, MutBor, MutRef}
+use denote.Slice.{slice_val, MutSlice, ShrSlice, shr_slice_copy, elements_shared, Room, heres, coded_holeys, finally, shr_slice_at, mut_slice_at}
 use denote.Lend as lend
 use denote.Lend.{Held, lends_slice, slice_back}
 use denote.Index.{place, row, whole_out, whole_in, elem_out, elem_back, elem_put, opens_slice, closes_slice, looks_slice, shuts_slice}
 use denote.Steps.{only, owned, facts, heard, nothing, opens, closes}
 use denote.Struct.Steps.{spelt}
-use denote.Struct.Declared.{Declared, row as row_of, fields}
-use denote.Struct.Struct.{Plains}
-use denote.Struct.Laws as LL
 use denote.Triple.Call.{calls_from, calls_from_last}
 use borrow.Table.Owned as O
 use borrow.Rule.Slice.Prefix.{shs_part_same}
-use borrow.Table.Copies.{halved}
 use borrow.Table.Elements.{at, at_mul}
 use native.Mathlib.Nat.{mul-one}
 use lib.Seq.{length-take-le}
-use borrow.Rule.Slice.Reshare.{kept_s, sl-reshare, sl_reshare_back}
+use borrow.Rule.Array.Share.{share_cells}
+use borrow.Rule.Slice.Reshare.{kept_s, sl_reshare_as, sl_reshare_back}
 use Rattle.walks.proofs.ByValue.{By}
 
 -- what is lent to a callee for the call, and comes back at another value
@@ -123,26 +121,8 @@ module _ {M : Type 1} {𝓤 : Ura M} (𝓛 : Logic 𝓤) where
     abbrev pub slice-own : ℕ → List R.Denot → Item 𝓤
     slice-own n ys = ‵ ((MutSlice ℓ κ R).own_val (ref γ ys) (slice_val (b, o) n ∷ [])) ⊛ ‵ (flft κ q)
 
-    -- a `&[T]` of n elements, with its token
-    abbrev pub shr-own : ℕ → List R.Denot → Item 𝓤
-    shr-own n ys = ‵ ((ShrSlice ℓ κ R).own_val (ref γ ys) (slice_val (b, o) n ∷ [])) ⊛ ‵ (flft κ q)
-
-    -- it is handed to a callee at its own lifetime, and kept: only the token goes and comes back
-    abbrev pub shr-lent : ℕ → Loan 𝓛 (List R.Denot)
-    shr-lent n = record {
-      N = Unit {0};
-      own = shr-own n;
-      sent = λ _ ys. sep 𝓤 (A.lft κ q) (sem 𝓛 ((ShrSlice ℓ κ R).own_val (ref γ ys) (slice_val (b, o) n ∷ [])));
-      kept = λ _ ys. sem 𝓛 ((ShrSlice ℓ κ R).own_val (ref γ ys) (slice_val (b, o) n ∷ []));
-      back = λ _ ys. A.lft κ q;
-      Fit = λ ys zs. ys ≡ zs;
-      lends = λ ys. qed 𝓛 (shr-own n ys ∷ []) ∵ updating ! $ split ! $ use1 𝓛 (‵ ((ShrSlice ℓ κ R).own_val (ref γ ys) (slice_val (b, o) n ∷ [])) ⊛ ‵ ((ShrSlice ℓ κ R).own_val (ref γ ys) (slice_val (b, o) n ∷ []))) ((shr_slice_copy 𝓛 ℓ κ R).twice (ref γ ys) (slice_val (b, o) n ∷ [])) $ split ! $ at_once ! $
-          show ! (λ (m : Unit {0}). sep 𝓤 (sep 𝓤 (A.lft κ q) (sem 𝓛 ((ShrSlice ℓ κ R).own_val (ref γ ys) (slice_val (b, o) n ∷ [])))) (sem 𝓛 ((ShrSlice ℓ κ R).own_val (ref γ ys) (slice_val (b, o) n ∷ [])))) tt $ move ! (2 ∷ 0 ∷ []) $ join ! $ done !;
-      comes = λ m ys zs e. qed 𝓛 (‵ ((ShrSlice ℓ κ R).own_val (ref γ ys) (slice_val (b, o) n ∷ [])) ∷ ‵ (flft κ q) ∷ []) ∵ updating ! $ rewrite ! 0 (λ (l : List R.Denot). ‵ ((ShrSlice ℓ κ R).own_val (ref γ l) (slice_val (b, o) n ∷ []))) e refl $ at_once ! $ done !;
-    }
-
     abbrev says-slice : ℕ → List R.Denot → Type 0
-    says-slice n ys = shadow (shr_slice_at R (ref γ ys) (slice_val (b, o) n ∷ []))
+    says-slice n ys = shadow (mut_slice_at R (ref γ ys) (slice_val (b, o) n ∷ []))
 
     -- what is kept while the slice is lent again: the lender's part, and the open borrow
     abbrev Lent : ℕ → GName → List R.Denot → Fml
@@ -170,32 +150,80 @@ module _ {M : Type 1} {𝓤 : Ura M} (𝓛 : Logic 𝓤) where
           fjoin ! $ pure_i ! (mut_slice_at R (ref γ zs) (slice_val (b, o) n ∷ [])) (tt, (tt, tt)) (p.0 ∙ ap (λ (k : ℕ). slice_val (b, o) k ∷ []) (sym e), subst (Room R) (sym e) p.1) $ fjoin ! $ done !);
     }
 
+  module _ (R : RattleType) (ℓ : Lifetime) (κ : Lft) (q : Share) (b o : ℕ) where
+    abbrev shr : {X : Type 0} → X → Bor X
+    shr y = record { ref_ptr = (b, o); now = y }
+
+    -- a `&[T]` of n elements, with its token
+    abbrev pub shr-own : ℕ → List R.Denot → Item 𝓤
+    shr-own n ys = ‵ ((ShrSlice ℓ κ R).own_val (shr ys) (slice_val (b, o) n ∷ [])) ⊛ ‵ (flft κ q)
+
+    -- it is handed to a callee at its own lifetime, and kept: only the token goes and comes back
+    abbrev pub shr-lent : RowLaws R → ℕ → Loan 𝓛 (List R.Denot)
+    shr-lent L n = record {
+      N = Unit {0};
+      own = shr-own n;
+      sent = λ _ ys. sep 𝓤 (A.lft κ q) (sem 𝓛 ((ShrSlice ℓ κ R).own_val (shr ys) (slice_val (b, o) n ∷ [])));
+      kept = λ _ ys. sem 𝓛 ((ShrSlice ℓ κ R).own_val (shr ys) (slice_val (b, o) n ∷ []));
+      back = λ _ ys. A.lft κ q;
+      Fit = λ ys zs. ys ≡ zs;
+      lends = λ ys. qed 𝓛 (shr-own n ys ∷ []) ∵ updating ! $ split ! $ use1 𝓛 (‵ ((ShrSlice ℓ κ R).own_val (shr ys) (slice_val (b, o) n ∷ [])) ⊛ ‵ ((ShrSlice ℓ κ R).own_val (shr ys) (slice_val (b, o) n ∷ []))) ((shr_slice_copy 𝓛 ℓ κ R L).twice (shr ys) (slice_val (b, o) n ∷ [])) $ split ! $ at_once ! $
+          show ! (λ (m : Unit {0}). sep 𝓤 (sep 𝓤 (A.lft κ q) (sem 𝓛 ((ShrSlice ℓ κ R).own_val (shr ys) (slice_val (b, o) n ∷ [])))) (sem 𝓛 ((ShrSlice ℓ κ R).own_val (shr ys) (slice_val (b, o) n ∷ [])))) tt $ move ! (2 ∷ 0 ∷ []) $ join ! $ done !;
+      comes = λ m ys zs e. qed 𝓛 (‵ ((ShrSlice ℓ κ R).own_val (shr ys) (slice_val (b, o) n ∷ [])) ∷ ‵ (flft κ q) ∷ []) ∵ updating ! $ rewrite ! 0 (λ (l : List R.Denot). ‵ ((ShrSlice ℓ κ R).own_val (shr l) (slice_val (b, o) n ∷ []))) e refl $ at_once ! $ done !;
+    }
+
 -- an empty `&[T]` is had for nothing, for a lifetime of its own
 module _ {M : Type 1} {𝓤 : Ura M} {𝓛 : Logic 𝓤} {K : Type 0} {Γ : List (Item 𝓤)} where
   open 𝓛 use {H}
 
   pub has-none : K → {G : Goal 𝓤 H} → Soaks G → (R : RattleType) (ℓ : Lifetime) (b o : ℕ) → Room R 0
-      → ((α : ℕ) (γ : GName) → Seq K 𝓛 (shr-own 𝓛 R ℓ (α ∷ []) full_share γ b o 0 [] ∷ Γ) G) → Seq K 𝓛 Γ G
+      → ((α : ℕ) → Seq K 𝓛 (shr-own 𝓛 R ℓ (α ∷ []) full_share b o 0 [] ∷ Γ) G) → Seq K 𝓛 Γ G
   has-none t soaks R ℓ b o room k =
-      lft_new t soaks (λ α. use0 𝓛 (‵ ((arr_parts (shares R) 0).part full_share [] b o)) (qed 𝓛 [] ∵ nothing ! $ feq_i ! ℕ 0 0 refl $ fjoin ! $ done !) $
-      use1 𝓛 (later (some (λ (γ : GName). ‵ ((ShrSlice ℓ (α ∷ []) R).own_val (record { ref_ptr = (b, o); now = [] }) (slice_val (b, o) 0 ∷ [])) ⊛ ‵ (flent (α ∷ []) ((arr_parts (shares R) 0).part full_share [] b o))))) (lend.lends_shr_slice 𝓛 R ℓ (α ∷ []) full_share [] b o room) $ await t soaks $ pick t (λ γ.
-      split t $ move t (1 ∷ []) $ drop t $ join t $ k α γ))
+      lft_new t soaks (λ α. use0 𝓛 (‵ (fhide (elements_shared R [] b o (α ∷ [])))) (id⊢ 𝓤 (emp 𝓤)) $
+      pure_i t (shr_slice_at R (record { ref_ptr = (b, o); now = [] }) (slice_val (b, o) 0 ∷ [])) (tt, (tt, tt)) (refl, room) $ fjoin t $ join t $ k α)
+
+-- a token of a new lifetime, beside others
+module _ {M : Type 1} {𝓤 : Ura M} (𝓛 : Logic 𝓤) (α : ℕ) where
+  open 𝓛 use {A}
+
+  abbrev pub with-new : Toks → Toks
+  with-new ts = (α ∷ [], full_share) ∷ ts
+
+  new-within : (ts : Toks) → Incl (span (with-new ts)) (α ∷ [])
+  new-within [] = Incl-refl (α ∷ [])
+  new-within (t ∷ ts) = λ a m. mem-append_left (span (t ∷ ts)) m
+
+  new-in : (ts : Toks) → ent 𝓤 (sep 𝓤 (A.lft (α ∷ []) full_share) (lfts 𝓛 ts)) (lfts 𝓛 (with-new ts))
+  new-in [] = qed 𝓛 (‵ (flft (α ∷ []) full_share) ∷ raw (emp 𝓤) ∷ []) ∵ move ! (1 ∷ []) $ drop ! $ done !
+  new-in (t ∷ ts) = id⊢ 𝓤 (sep 𝓤 (A.lft (α ∷ []) full_share) (lfts 𝓛 (t ∷ ts)))
+
+  new-out : (ts : Toks) → ent 𝓤 (lfts 𝓛 (with-new ts)) (sep 𝓤 (A.lft (α ∷ []) full_share) (lfts 𝓛 ts))
+  new-out [] = qed 𝓛 (‵ (flft (α ∷ []) full_share) ∷ []) ∵ use0 𝓛 (raw (emp 𝓤)) (id⊢ 𝓤 (emp 𝓤)) $ move ! (1 ∷ 0 ∷ []) $ done !
+  new-out (t ∷ ts) = id⊢ 𝓤 (sep 𝓤 (A.lft (α ∷ []) full_share) (lfts 𝓛 (t ∷ ts)))
 
 -- a `&mut [T]` that is looked at: it is lent as a `&[T]` for a lifetime of its own, and comes back as it was
 module _ {M : Type 1} {𝓤 : Ura M} {𝓛 : Logic 𝓤} {K : Type 0} {Γ : List (Item 𝓤)} (R : RattleType) (ℓ : Lifetime) (κ : Lft) (q : Share) (γ : GName) (b o : ℕ) where
   open 𝓛 use {H}
 
-  pub shows-slice : K → {G : Goal 𝓤 H} → Soaks G → (ℓ' : Lifetime) (n : ℕ) (ys : List R.Denot)
-      → ((α : ℕ) (δ : GName) → Seq K 𝓛 (shr-own 𝓛 R ℓ' (α ∷ []) full_share δ b o n ys ∷ ‵ (kept_s R κ q (α ∷ []) γ ys b o) ∷ Γ) G) → Seq K 𝓛 (slice-own 𝓛 R ℓ κ q γ b o n ys ∷ Γ) G
-  shows-slice t soaks ℓ' n ys k =
-      split t $ fsplit t $ fsplit t $ feq_l t (λ e. fjoin t $ lft_new t soaks (λ α. move t (1 ∷ 2 ∷ []) $
-      use2 𝓛 (later (some (λ (δ : GName). ‵ ((O.ShrSlice erased (α ∷ []) R).own (record { ref_ptr = (b, o); now = ys })) ⊛ ‵ (kept_s R κ q (α ∷ []) γ ys b o)))) (sl-reshare 𝓛 R κ q (α ∷ []) b o γ ys) $ await t soaks $ pick t (λ δ.
-      split t $ fsplit t $ feq_i t (List Val) (slice_val (b, o) n ∷ []) (slice_val (b, o) (length ys) ∷ []) e $ fjoin t $ fjoin t $ move t (0 ∷ 2 ∷ []) $ join t $ k α δ)))
+  -- tokens ts, of the lifetimes of the `&mut`s that an element holds, serve the loan and come back
+  pub shows-slice-by : K → {G : Goal 𝓤 H} → Soaks G → (ℓ' : Lifetime) (n : ℕ) (ys : List R.Denot) → RowLaws R → (ts : Toks) → ((α : ℕ) → Shares 𝓛 R (span (with-new 𝓛 α ts)))
+      → ((α : ℕ) → Seq K 𝓛 (shr-own 𝓛 R ℓ' (α ∷ []) full_share b o n ys ∷ kept_s 𝓛 R κ q (α ∷ []) γ ys b o ∷ raw (lfts 𝓛 ts) ∷ Γ) G) → Seq K 𝓛 (slice-own 𝓛 R ℓ κ q γ b o n ys ∷ raw (lfts 𝓛 ts) ∷ Γ) G
+  shows-slice-by t soaks ℓ' n ys L ts sh k =
+      split t $ fsplit t $ fsplit t $ feq_l t (λ e. fjoin t $ lft_new t soaks (λ α. move t (0 ∷ 3 ∷ []) $ use2 𝓛 (raw (lfts 𝓛 (with-new 𝓛 α ts))) (new-in 𝓛 α ts) $ move t (1 ∷ 2 ∷ 0 ∷ []) $
+      use3 𝓛 (later (‵ ((O.ShrSlice erased (α ∷ []) R).own_val (record { ref_ptr = (b, o); now = ys })) ⊛ (kept_s 𝓛 R κ q (α ∷ []) γ ys b o ⊛ raw (lfts 𝓛 (with-new 𝓛 α ts)))))
+      (sl_reshare_as 𝓛 R κ q (α ∷ []) b o γ (lfts 𝓛 (with-new 𝓛 α ts)) (λ zs room age. share_cells 𝓛 R (α ∷ []) b L (span (with-new 𝓛 α ts)) (sh α) (with-new 𝓛 α ts) (Incl-refl (span (with-new 𝓛 α ts))) (new-within 𝓛 α ts) zs o room age) ys) $ await t soaks $
+      split t $ move t (1 ∷ []) $ split t $ move t (1 ∷ []) $ use1 𝓛 (‵ (flft (α ∷ []) full_share) ⊛ raw (lfts 𝓛 ts)) (new-out 𝓛 α ts) $ split t $ move t (3 ∷ []) $
+      fsplit t $ feq_i t (List Val) (slice_val (b, o) n ∷ []) (slice_val (b, o) (length ys) ∷ []) e $ fjoin t $ fjoin t $ join t $ move t (0 ∷ 2 ∷ []) $ k α))
 
-  pub hides-slice : K → {G : Goal 𝓤 H} → Soaks G → (ℓ' : Lifetime) (n : ℕ) (ys : List R.Denot) (α : ℕ) (δ : GName) → n ≡ length ys
-      → Step K 𝓛 (slice-own 𝓛 R ℓ κ q γ b o n ys ∷ Γ) G (shr-own 𝓛 R ℓ' (α ∷ []) full_share δ b o n ys ∷ ‵ (kept_s R κ q (α ∷ []) γ ys b o) ∷ Γ) G
-  hides-slice t soaks ℓ' n ys α δ e = step (λ k.
-      split t $ drop t $ lft_end t soaks $ use2 𝓛 (later (‵ ((O.MutSlice erased κ R).own (record { ref_ptr = (b, o); ghost_name = γ; now = ys })) ⊛ ‵ (flft κ q))) (sl_reshare_back 𝓛 R κ q (α ∷ []) b o γ ys) $ await t soaks $
+  -- with no other token, as where an element holds no `&mut`
+  pub shows-slice : K → {G : Goal 𝓤 H} → Soaks G → (ℓ' : Lifetime) (n : ℕ) (ys : List R.Denot) → RowLaws R → ((α : ℕ) → Shares 𝓛 R (α ∷ []))
+      → ((α : ℕ) → Seq K 𝓛 (shr-own 𝓛 R ℓ' (α ∷ []) full_share b o n ys ∷ kept_s 𝓛 R κ q (α ∷ []) γ ys b o ∷ Γ) G) → Seq K 𝓛 (slice-own 𝓛 R ℓ κ q γ b o n ys ∷ Γ) G
+  shows-slice t soaks ℓ' n ys L sh k = use0 𝓛 (raw (emp 𝓤)) (id⊢ 𝓤 (emp 𝓤)) $ move t (1 ∷ 0 ∷ []) $ shows-slice-by t soaks ℓ' n ys L [] sh (λ α. move t (2 ∷ []) $ drop t $ k α)
+
+  pub hides-slice : K → {G : Goal 𝓤 H} → Soaks G → (ℓ' : Lifetime) (n : ℕ) (ys : List R.Denot) (α : ℕ) → n ≡ length ys
+      → Step K 𝓛 (slice-own 𝓛 R ℓ κ q γ b o n ys ∷ Γ) G (shr-own 𝓛 R ℓ' (α ∷ []) full_share b o n ys ∷ kept_s 𝓛 R κ q (α ∷ []) γ ys b o ∷ Γ) G
+  hides-slice t soaks ℓ' n ys α e = step (λ k.
+      split t $ drop t $ lft_end t soaks $ use2 𝓛 (later (‵ ((O.MutSlice erased κ R).own_val (record { ref_ptr = (b, o); ghost_name = γ; now = ys })) ⊛ ‵ (flft κ q))) (sl_reshare_back 𝓛 R κ q (α ∷ []) b o γ ys) $ await t soaks $
       split t $ fsplit t $ feq_i t (List Val) (slice_val (b, o) n ∷ []) (slice_val (b, o) (length ys) ∷ []) (ap (λ (m : ℕ). slice_val (b, o) m ∷ []) e) $ fjoin t $ fjoin t $ join t $ k)
 
 -- where the octets from number a on begin
@@ -206,29 +234,29 @@ pub begins-is : (o : ℕ) (ys : List ℕ) (a : ℕ) → a ≤ length ys → a + 
 begins-is o ys a h = sym (at_mul o 1 (length (take a ys)) ∙ ap (λ (j : ℕ). j + o) (mul-one (length (take a ys)) ∙ length-take-le a ys h))
 
 -- a part of a `&[u8]`, at its own lifetime: the token goes with the part, and comes back
-module _ {M : Type 1} {𝓤 : Ura M} {𝓛 : Logic 𝓤} {K : Type 0} {Γ : List (Item 𝓤)} (ℓ : Lifetime) (κ : Lft) (q : Share) (γ : GName) (b o : ℕ) (ys : List ℕ) (a k : ℕ) where
+module _ {M : Type 1} {𝓤 : Ura M} {𝓛 : Logic 𝓤} {K : Type 0} {Γ : List (Item 𝓤)} (ℓ : Lifetime) (κ : Lft) (q : Share) (b o : ℕ) (ys : List ℕ) (a k : ℕ) where
   open 𝓛 use {H}
 
   pub takes-octets : K → {G : Goal 𝓤 H} → Soaks G → (ℓ' : Lifetime) (n : ℕ) → k ≡ length (take k (skips-to a ys))
-      → ((δ : GName) → Seq K 𝓛 (shr-own 𝓛 u8 ℓ' κ q δ b (begins-at o ys a) k (take k (skips-to a ys)) ∷ ‵ ((ShrSlice ℓ κ u8).own_val (record { ref_ptr = (b, o); now = ys }) (slice_val (b, o) n ∷ [])) ∷ Γ) G)
-      → Seq K 𝓛 (shr-own 𝓛 u8 ℓ κ q γ b o n ys ∷ Γ) G
+      → Seq K 𝓛 (shr-own 𝓛 u8 ℓ' κ q b (begins-at o ys a) k (take k (skips-to a ys)) ∷ ‵ ((ShrSlice ℓ κ u8).own_val (record { ref_ptr = (b, o); now = ys }) (slice_val (b, o) n ∷ [])) ∷ Γ) G
+      → Seq K 𝓛 (shr-own 𝓛 u8 ℓ κ q b o n ys ∷ Γ) G
   takes-octets t soaks ℓ' n e h =
-      split t $ use1 𝓛 (‵ ((ShrSlice ℓ κ u8).own_val (record { ref_ptr = (b, o); now = ys }) (slice_val (b, o) n ∷ [])) ⊛ ‵ ((ShrSlice ℓ κ u8).own_val (record { ref_ptr = (b, o); now = ys }) (slice_val (b, o) n ∷ []))) ((shr_slice_copy 𝓛 ℓ κ u8).twice (record { ref_ptr = (b, o); now = ys }) (slice_val (b, o) n ∷ [])) $
+      split t $ use1 𝓛 (‵ ((ShrSlice ℓ κ u8).own_val (record { ref_ptr = (b, o); now = ys }) (slice_val (b, o) n ∷ [])) ⊛ ‵ ((ShrSlice ℓ κ u8).own_val (record { ref_ptr = (b, o); now = ys }) (slice_val (b, o) n ∷ []))) ((shr_slice_copy 𝓛 ℓ κ u8 (uint_row_laws w8)).twice (record { ref_ptr = (b, o); now = ys }) (slice_val (b, o) n ∷ [])) $
       split t $ fsplit t $ fsplit t $ drop t $ fjoin t $ move t (0 ∷ 2 ∷ []) $
-      use2 𝓛 (later (some (λ (δ : GName). ‵ ((O.ShrSlice erased κ u8).own_val (record { ref_ptr = (b, (begins-at o ys a)); now = take k (skips-to a ys) })) ⊛ ‵ (flft κ q)))) (shs_part_same 𝓛 u8 κ q b (halved 𝓛 (record { vals = λ x. vint w8 x ∷ []; tells = uint_Tells w8; copy = λ 𝓛'. uint_copy 𝓛' w8 })) o γ ys a k) $ await t soaks $ pick t (λ δ.
-      split t $ fsplit t $ feq_i t (List Val) (slice_val (b, (begins-at o ys a)) k ∷ []) (slice_val (b, (begins-at o ys a)) (length (take k (skips-to a ys))) ∷ []) (ap (λ (m : ℕ). slice_val (b, (begins-at o ys a)) m ∷ []) e) $ fjoin t $ fjoin t $ join t $ h δ)
+      use2 𝓛 (later (‵ ((O.ShrSlice erased κ u8).own_val (record { ref_ptr = (b, (begins-at o ys a)); now = take k (skips-to a ys) })) ⊛ ‵ (flft κ q))) (shs_part_same 𝓛 u8 κ q b o ys a k) $ await t soaks $
+      split t $ fsplit t $ feq_i t (List Val) (slice_val (b, (begins-at o ys a)) k ∷ []) (slice_val (b, (begins-at o ys a)) (length (take k (skips-to a ys))) ∷ []) (ap (λ (m : ℕ). slice_val (b, (begins-at o ys a)) m ∷ []) e) $ fjoin t $ fjoin t $ join t $ h
 
-  pub gives-octets : K → {G : Goal 𝓤 H} (ℓ' : Lifetime) (n : ℕ) (δ : GName)
-      → Step K 𝓛 (shr-own 𝓛 u8 ℓ κ q γ b o n ys ∷ Γ) G (shr-own 𝓛 u8 ℓ' κ q δ b (begins-at o ys a) k (take k (skips-to a ys)) ∷ ‵ ((ShrSlice ℓ κ u8).own_val (record { ref_ptr = (b, o); now = ys }) (slice_val (b, o) n ∷ [])) ∷ Γ) G
-  gives-octets t ℓ' n δ = step (λ h. split t $ drop t $ move t (1 ∷ 0 ∷ []) $ join t $ h)
+  pub gives-octets : K → {G : Goal 𝓤 H} (ℓ' : Lifetime) (n : ℕ)
+      → Step K 𝓛 (shr-own 𝓛 u8 ℓ κ q b o n ys ∷ Γ) G (shr-own 𝓛 u8 ℓ' κ q b (begins-at o ys a) k (take k (skips-to a ys)) ∷ ‵ ((ShrSlice ℓ κ u8).own_val (record { ref_ptr = (b, o); now = ys }) (slice_val (b, o) n ∷ [])) ∷ Γ) G
+  gives-octets t ℓ' n = step (λ h. split t $ drop t $ move t (1 ∷ 0 ∷ []) $ join t $ h)
 
 -- one call of g at the values vs: what is lent is v and comes back as v', and the answer is w
-pub record Call {M : Type 1} {𝓤 : Ura M} (𝓛 : Logic 𝓤) (C : Calls 𝓤 𝓛.H) (g : Name) (vs : List Val) {Y : Type 0} (L : Loan 𝓛 Y) (B : By 𝓛) (v v' : Y) (w : B.R.Denot) : Type 2 where
+pub record Call {M : Type 1} {𝓤 : Ura M} (𝓛 : Logic 𝓤) (C : Calls 𝓤 𝓛.H) (g : Callee) (vs : List Val) {Y : Type 0} (L : Loan 𝓛 Y) (B : By 𝓛) (v v' : Y) (w : B.R.Denot) : Type 2 where
   pub Q : L.N → Val → SProp 𝓤
   pub goes : (n : L.N) → ent 𝓤 (L.sent n v) (C g vs (Q n))
-  pub gives : (n : L.N) (u : Val) → ent 𝓤 (Q n u) (𝓛.H.⇛ (ex 𝓤 (λ (z : B.R.Denot × Y). sep 𝓤 (sem 𝓛 (B.R.own z.0 (u ∷ []))) (sep 𝓤 (L.back n z.1) (fact 𝓤 ((z.0 ≡ w) × ((z.1 ≡ v') × L.Fit v z.1)))))))
+  pub gives : (n : L.N) (u : Val) → ent 𝓤 (Q n u) (𝓛.H.⇛ (ex 𝓤 (λ (z : B.R.Denot × Y). sep 𝓤 (sem 𝓛 (B.R.own_val z.0 (u ∷ []))) (sep 𝓤 (L.back n z.1) (fact 𝓤 ((z.0 ≡ w) × ((z.1 ≡ v') × L.Fit v z.1)))))))
 
-module _ {M : Type 1} {𝓤 : Ura M} {𝓛 : Logic 𝓤} {K : Type 0} {Γ : List (Item 𝓤)} {C : Calls 𝓤 𝓛.H} {g : Name} {vs : List Val} where
+module _ {M : Type 1} {𝓤 : Ura M} {𝓛 : Logic 𝓤} {K : Type 0} {Γ : List (Item 𝓤)} {C : Calls 𝓤 𝓛.H} {g : Callee} {vs : List Val} where
   -- whatever follows the call
   open 𝓛 use {H}
 
@@ -237,7 +265,7 @@ module _ {M : Type 1} {𝓤 : Ura M} {𝓛 : Logic 𝓤} {K : Type 0} {Γ : List
       → (Is B.R w (B.val w ∷ []) → L.Fit v v' → Seq K 𝓛 (L.own v' ∷ Γ) (after (B.val w))) → Seq K 𝓛 (L.own v ∷ Γ) G
   asking t {Y} L B {v} {v'} {w} c soaks after soaks' rule k =
       use1 𝓛 (later (some (λ (n : L.N). raw (L.sent n v) ⊛ raw (L.kept n v)))) (L.lends v) $ await t soaks $ pick t (λ n. split t $ rule n (λ u.
-      use1 𝓛 (later (some (λ (z : B.R.Denot × Y). ‵ (B.R.own z.0 (u ∷ [])) ⊛ (raw (L.back n z.1) ⊛ raw (fact 𝓤 ((z.0 ≡ w) × ((z.1 ≡ v') × L.Fit v z.1))))))) (c.gives n u) $ await t (soaks' u) $ pick t (λ z. split t $ move t (1 ∷ []) $ split t $ move t (1 ∷ []) $
+      use1 𝓛 (later (some (λ (z : B.R.Denot × Y). ‵ (B.R.own_val z.0 (u ∷ [])) ⊛ (raw (L.back n z.1) ⊛ raw (fact 𝓤 ((z.0 ≡ w) × ((z.1 ≡ v') × L.Fit v z.1))))))) (c.gives n u) $ await t (soaks' u) $ pick t (λ z. split t $ move t (1 ∷ []) $ split t $ move t (1 ∷ []) $
       heard t ((z.0 ≡ w) × ((z.1 ≡ v') × L.Fit v z.1)) (λ e. move t (1 ∷ []) $ facts t B.R (Is B.R) (shows 𝓛 B.R) z.0 (u ∷ []) (λ is.
       move t (1 ∷ 0 ∷ []) $ use2 𝓛 (later (L.own z.1)) (L.comes n v z.1 e.1.1) $ await t (soaks' u) $ rewrite t 0 (λ (y : Y). L.own y) e.1.0 refl $
       ends u z.0 e.0 is (subst (λ (y : Y). L.Fit v y) e.1.0 e.1.1))))))
@@ -371,13 +399,13 @@ module _ {M : Type 1} {𝓤 : Ura M} {𝓛 : Logic 𝓤} {K : Type 0} {Γ : List
         → (Is B.R (get_or ys k none) (B.val (get_or ys k none) ∷ []) → Seq K 𝓛 (slice-own 𝓛 B.R ℓ κ s γ b o n ys ∷ Γ') (runs C Λ E rest q))
         → Seq K 𝓛 (slice-own 𝓛 B.R ℓ κ s γ b o n ys ∷ Γ) (runs C Λ E (seq (assign (placeᴹ d []) (rv_opd (copy (placeᴹ i (deref B.τ ∷ []))))) rest) q)
     loads-elem t n ys j none within r w k =
-        split t $ fsplit t $ pure_l t (shr_slice_at B.R (record { ref_ptr = (b, o); ghost_name = γ; now = ys }) (slice_val (b, o) n ∷ [])) (λ p. fsplit t $ opens_slice t tt B.R ys b o $
+        split t $ fsplit t $ pure_l t (mut_slice_at B.R (record { ref_ptr = (b, o); ghost_name = γ; now = ys }) (slice_val (b, o) n ∷ [])) (λ p. fsplit t $ opens_slice t tt B.R ys b o $
         elem_out t B.R (Is B.R) (shows 𝓛 B.R) (λ x. B.val x ∷ []) B.tells full_share ys j none b o within (λ is.
         rewrite t 0 (λ (τs : List Ty). ‵ (cell_at full_share τs (B.val (get_or ys j none) ∷ []) b (place (mem B.R).size o j))) B.layout refl $
         assigns t (of_opd t (load t (from t (hop t (r _ _ _ _ _ _) (stop t))) (look_raw t 0 refl))) (from t (stop t)) (w _ _ _ _ _ _ (B.typed (get_or ys j none) (B.val (get_or ys j none)) is)) $
         rewrite t 0 (λ (τs : List Ty). ‵ (cell_at full_share τs (B.val (get_or ys j none) ∷ []) b (place (mem B.R).size o j))) (sym B.layout) refl $
         elem_back t B.R full_share ys j none (B.val (get_or ys j none) ∷ []) b o within $ closes_slice t tt B.R ys ys refl b o $
-        fjoin t $ pure_i t (shr_slice_at B.R (record { ref_ptr = (b, o); ghost_name = γ; now = ys }) (slice_val (b, o) n ∷ [])) (tt, (tt, tt)) p $ fjoin t $ join t $ k is))
+        fjoin t $ pure_i t (mut_slice_at B.R (record { ref_ptr = (b, o); ghost_name = γ; now = ys }) (slice_val (b, o) n ∷ [])) (tt, (tt, tt)) p $ fjoin t $ join t $ k is))
 
     -- `*i = rv` where i is the address of an element
     pub stores-elem : K → {i : ℕ} {rv : RValue} {rest : Body} (n : ℕ) (ys : List B.R.Denot) (k : ℕ) (y none : B.R.Denot) → k < length ys
@@ -386,30 +414,29 @@ module _ {M : Type 1} {𝓤 : Ura M} {𝓛 : Logic 𝓤} {K : Type 0} {Γ : List
         → Is B.R y (B.val y ∷ [])
         → Step K 𝓛 (slice-own 𝓛 B.R ℓ κ s γ b o n (set ys k y) ∷ Γ) (runs C Λ E rest q) (slice-own 𝓛 B.R ℓ κ s γ b o n ys ∷ Γ) (runs C Λ E (seq (assign (placeᴹ i (deref B.τ ∷ [])) rv) rest) q)
     stores-elem t n ys j y none within v r is' = step (λ k.
-        split t $ fsplit t $ pure_l t (shr_slice_at B.R (record { ref_ptr = (b, o); ghost_name = γ; now = ys }) (slice_val (b, o) n ∷ [])) (λ p. fsplit t $ opens_slice t tt B.R ys b o $
+        split t $ fsplit t $ pure_l t (mut_slice_at B.R (record { ref_ptr = (b, o); ghost_name = γ; now = ys }) (slice_val (b, o) n ∷ [])) (λ p. fsplit t $ opens_slice t tt B.R ys b o $
         elem_out t B.R (Is B.R) (shows 𝓛 B.R) (λ x. B.val x ∷ []) B.tells full_share ys j none b o within (λ is.
         rewrite t 0 (λ (τs : List Ty). ‵ (cell_at full_share τs (B.val (get_or ys j none) ∷ []) b (place (mem B.R).size o j))) B.layout refl $
         assigns t (v _ _ _ _ _ _) (from t (hop t (r _ _ _ _ _ _) (stop t))) (store_raw t 0 refl (B.typed y (B.val y) is')) $
         rewrite t 0 (λ (τs : List Ty). ‵ (cell_at full_share τs (B.val y ∷ []) b (place (mem B.R).size o j))) (sym B.layout) refl $
         move t (1 ∷ []) $ drop t $ owned t B.R (Is B.R) B.makes y _ is' $ move t (1 ∷ 0 ∷ 2 ∷ []) $
         elem_put t B.R full_share ys j y (B.val y ∷ []) b o within $ closes_slice t tt B.R ys (set ys j y) (length-set ys j y) b o $
-        fjoin t $ pure_i t (shr_slice_at B.R (record { ref_ptr = (b, o); ghost_name = γ; now = set ys j y }) (slice_val (b, o) n ∷ [])) (tt, (tt, tt)) (p.0 ∙ ap (λ (m : ℕ). slice_val (b, o) m ∷ []) (sym (length-set ys j y)), subst (Room B.R) (sym (length-set ys j y)) p.1) $ fjoin t $ join t $ k)))
+        fjoin t $ pure_i t (mut_slice_at B.R (record { ref_ptr = (b, o); ghost_name = γ; now = set ys j y }) (slice_val (b, o) n ∷ [])) (tt, (tt, tt)) (p.0 ∙ ap (λ (m : ℕ). slice_val (b, o) m ∷ []) (sym (length-set ys j y)), subst (Room B.R) (sym (length-set ys j y)) p.1) $ fjoin t $ join t $ k)))
 
   -- `d = *i` where i is the address of an element of a `&[T]`, held with its token
-  pub looks-elem : (B : By 𝓛) → Copy 𝓛 B.R → (ℓ : Lifetime) (κ : Lft) (s : Share) (γ : GName) (b o : ℕ) → K → {i d : ℕ} {rest : Body} {Γ' : List (Item 𝓤)} (n : ℕ) (ys : List B.R.Denot) (k : ℕ) (none : B.R.Denot) → k < length ys
+  pub looks-elem : (B : By 𝓛) → Copied 𝓛 B.R → (ℓ : Lifetime) (κ : Lft) (s : Share) (b o : ℕ) → K → {i d : ℕ} {rest : Body} {Γ' : List (Item 𝓤)} (n : ℕ) (ys : List B.R.Denot) (k : ℕ) (none : B.R.Denot) → k < length ys
       → ((c₀ c₁ c₂ c₃ c₄ c₅ c₆ : Item 𝓤) → Reads K 𝓛 (c₀ ∷ c₁ ∷ c₂ ∷ c₃ ∷ c₄ ∷ c₅ ∷ c₆ ∷ Γ) (spot_of 𝓤 H E i).0 (spot_of 𝓤 H E i).1 (spot_of 𝓤 H E i).2 (vptr b (place (mem B.R).size o k)))
       → ((c₀ c₁ c₂ c₃ c₄ c₅ c₆ : Item 𝓤) → T (has_ty B.τ (B.val (get_or ys k none))) × WT (B.val (get_or ys k none)) → Writes K 𝓛 (c₀ ∷ c₁ ∷ c₂ ∷ c₃ ∷ c₄ ∷ c₅ ∷ c₆ ∷ Γ) (spot_of 𝓤 H E d).0 (spot_of 𝓤 H E d).1 (spot_of 𝓤 H E d).2 (B.val (get_or ys k none)) (c₀ ∷ c₁ ∷ c₂ ∷ c₃ ∷ c₄ ∷ c₅ ∷ c₆ ∷ Γ'))
-      → (Is B.R (get_or ys k none) (B.val (get_or ys k none) ∷ []) → Seq K 𝓛 (shr-own 𝓛 B.R ℓ κ s γ b o n ys ∷ Γ') (runs C Λ E rest q))
-      → Seq K 𝓛 (shr-own 𝓛 B.R ℓ κ s γ b o n ys ∷ Γ) (runs C Λ E (seq (assign (placeᴹ d []) (rv_opd (copy (placeᴹ i (deref B.τ ∷ []))))) rest) q)
-  looks-elem B cp ℓ κ s γ b o t n ys j none within r w k =
-      split t $ fsplit t $ move t (1 ∷ []) $ fsplit t $ move t (1 ∷ 3 ∷ []) $
-      looks_slice t tt B.R (Is B.R) (shows 𝓛 B.R) (λ x. B.val x ∷ []) B.tells cp ys b o (λ q'.
+      → (Is B.R (get_or ys k none) (B.val (get_or ys k none) ∷ []) → Seq K 𝓛 (shr-own 𝓛 B.R ℓ κ s b o n ys ∷ Γ') (runs C Λ E rest q))
+      → Seq K 𝓛 (shr-own 𝓛 B.R ℓ κ s b o n ys ∷ Γ) (runs C Λ E (seq (assign (placeᴹ d []) (rv_opd (copy (placeᴹ i (deref B.τ ∷ []))))) rest) q)
+  looks-elem B cp ℓ κ s b o t n ys j none within r w k =
+      split t $ fsplit t $ fsplit t $ move t (2 ∷ 3 ∷ []) $ looks_slice t tt B.R cp ys b o (λ q'.
       elem_out t B.R (Is B.R) (shows 𝓛 B.R) (λ x. B.val x ∷ []) B.tells q' ys j none b o within (λ is.
       rewrite t 0 (λ (τs : List Ty). ‵ (cell_at q' τs (B.val (get_or ys j none) ∷ []) b (place (mem B.R).size o j))) B.layout refl $
       assigns t (of_opd t (load t (from t (hop t (r _ _ _ _ _ _ _) (stop t))) (look_raw t 0 refl))) (from t (stop t)) (w _ _ _ _ _ _ _ (B.typed (get_or ys j none) (B.val (get_or ys j none)) is)) $
       rewrite t 0 (λ (τs : List Ty). ‵ (cell_at q' τs (B.val (get_or ys j none) ∷ []) b (place (mem B.R).size o j))) (sym B.layout) refl $
       elem_back t B.R q' ys j none (B.val (get_or ys j none) ∷ []) b o within $ shuts_slice t tt B.R q' ys b o $
-      move t (2 ∷ 1 ∷ []) $ fjoin t $ move t (2 ∷ 0 ∷ []) $ fjoin t $ join t $ k is))
+      move t (2 ∷ 3 ∷ []) $ fjoin t $ move t (0 ∷ 2 ∷ []) $ fjoin t $ join t $ k is))
 
 -- ---- the locals, in the order of the environment, each with its value or empty, are freed
 abbrev pub laid : {M : Type 1} (𝓤 : Ura M) (H : Heap 𝓤) → Env 𝓤 H → List (Option Val) → List (Item 𝓤) → List (Item 𝓤)

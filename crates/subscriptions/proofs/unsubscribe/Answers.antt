@@ -15,5 +15,5 @@ release-m-requires c =
 pub returns : goal.returns
 returns c =
     let a = c.args in
-    rw (c.release-m.ensures.value, c.release-m.ensures.store_after)
+    rw (c.release-m.ensures.0, c.release-m.ensures.1)
     (here-follows a.t.now a.store.now a.k (sym c.is_away.ensures ∙ c.if-is_away.false))

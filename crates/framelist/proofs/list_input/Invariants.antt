@@ -1,0 +1,10 @@
+-- The loop's invariant: the octets that wait lie within the room, and all that is lent stays as long as it was.
+use Rattle.std.proofs.Common.{◌≡◌, ◌≤◌, length}
+use Rattle.framelist.proofs.list_input.Given as goal
+
+abbrev pub invariant-loop-turns : goal.invariant-loop-turns
+invariant-loop-turns l =
+    (length l.block ≡ length l.initial.block) × (length l.line ≡ length l.initial.line) × (length l.store ≡ length l.initial.store) × (length l.out ≡ length l.initial.out) × (l.r.waiting ≤ length l.initial.out)
+
+abbrev pub decreases-loop-turns : goal.decreases-loop-turns
+decreases-loop-turns l = l.turns

@@ -1,0 +1,7 @@
+-- What the rules say of a telegram, counted, its answer put.
+use Rattle.scenario_md.proofs.Served.{heard}
+use Rattle.scenario_md.proofs.receive.Goals as goal
+
+pub returns : goal.returns
+returns c =
+    heard c.arrive-said.ensures c.outcome_of-outcome.ensures c.add.ensures c.put_heard.ensures

@@ -1,0 +1,31 @@
+-- The line ends behind the slot's number.
+use mathlib.Core.Path.{sym, ap, ◌∙◌}
+use Prim.Native.Nat.{ℕ}
+use mathlib.Core.Option.{some}
+use Rattle.line.specs.Line.{read_to}
+use Rattle.line.proofs.Fields.{ended, first-number, unended}
+use Rattle.answer.proofs.Rooms.{answered-by, not-answered}
+use Rattle.scenario_pd_look.specs.Look.{slot_answer, slot_words}
+use Rattle.scenario_pd_look.proofs.slot.Goals as goal
+
+pub returns-then-is_end : goal.returns-then-is_end
+unfolding slot_answer
+returns-then-is_end c =
+    let a = c.args in
+    let b = c.behind in
+    let k = c.number-k in
+    answered-by
+    (first-number a.s.now b.result (read_to 0 4) k.result 8 _ b.ensures k.ensures
+    (ended a.s.now k.result _ (sym c.is_end.ensures ∙ c.if-is_end.true) (ap (λ (x : ℕ). some (slot_words x a.t)) (sym c.word.ensures))))
+    c.put_slot.ensures
+
+pub returns : goal.returns
+unfolding slot_answer
+returns c =
+    let a = c.args in
+    let b = c.behind in
+    let k = c.number-k in
+    not-answered
+    (first-number a.s.now b.result (read_to 0 4) k.result 8 _ b.ensures k.ensures
+    (unended a.s.now k.result _ (sym c.is_end.ensures ∙ c.if-is_end.false)))
+    a.at a.out.now

@@ -1,0 +1,8 @@
+-- What the opening answers and wrote.
+use Rattle.sessions.proofs.Answers.{called}
+use Rattle.sessions.proofs.call.Goals as goal
+
+pub returns : goal.returns
+returns c =
+    let a = c.args in
+    called a.id a.timeout a.time a.octets.now _ c.open-place.result c.opened_as.result c.open-place.ensures c.opened_as.ensures
