@@ -74,7 +74,8 @@ returns-then-is_frame c =
     let s : List ℕ = c.args.s.now in
     let f : is_frame s ≡ true = sym c.is_frame.ensures ∙ c.if-is_frame.true in
     let t : take (length s - 35) (drop 35 s) ≡ drop 35 s = rest s 35 in
-    let o : length (datagram_of s) ≡ (length s - 35) / 2 = octets-length (drop 35 s) ∙ ap (λ (n : ℕ). n / 2) (length-drop 35 s) in
+    let o : length (datagram_of s) ≡ (length s - 35) / 2 =
+    octets-length (drop 35 s) ∙ ap (λ (n : ℕ). n / 2) (length-drop 35 s) in
     record {
       answer = rw f (cc (c.word_at.ensures, c.word_at-then-is_frame.ensures, c.number.ensures, o));
       buffer = rw f (c.decode.ensures ∙ ap (λ (d : List ℕ). put 0 (octets_of d) c.args.buffer.now) t);

@@ -1,4 +1,3 @@
--- Before each turn the register over s is that over the octets left, begun at c; a turn takes eight octets as two numbers.
 use mathlib.Core.List.{List}
 use mathlib.Core.Path.{sym, ◌∙◌}
 use Prim.Native.Nat.{ℕ, ◌≤◌, ◌+◌}
@@ -15,7 +14,8 @@ loop-i-preserved c =
     let s : List ℕ = c.args.s.now in
     let h : l.i + 4 + 4 ≤ length s = search rules in
     let o : Octets s = record { below = λ k. omega (arith, c.type_inv.s k) } in
-    let turned = turned-eight s o l.i l.c h c.little4-u.ensures c.little4-v.ensures c.turn.ensures c.turn-in-loop-i.ensures in
+    let turned =
+    turned-eight s o l.i l.c h c.little4-u.ensures c.little4-v.ensures c.turn.ensures c.turn-in-loop-i.ensures in
     (h, omega arith, l.invariant.2 ∙ turned)
 
 pub returns : goal.returns

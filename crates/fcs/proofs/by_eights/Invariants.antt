@@ -1,4 +1,5 @@
--- Before each turn the register over s is that over the octets left, begun at c; a turn takes eight octets as two numbers.
+-- Before each turn the register over s is that over the octets left, begun at c; a turn takes eight octets as two
+-- numbers.
 use mathlib.Core.Path.{◌≡◌}
 use Prim.Native.Nat.{◌≤◌, ◌-◌, ◌%◌}
 use lib.ListN.{length, drop}

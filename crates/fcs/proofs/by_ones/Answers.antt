@@ -1,4 +1,3 @@
--- Before each turn the register over s is that over the octets left, begun at c.
 use mathlib.Core.List.{List}
 use mathlib.Core.Path.{sym, ◌∙◌}
 use Prim.Native.Nat.{ℕ}

@@ -1,4 +1,3 @@
--- The loop's invariant: the target's first i octets are those that the digits write.
 use mathlib.Core.Path.{◌≡◌, refl, sym, ap₂, ◌∙◌}
 use Prim.Native.Nat.{ℕ, ◌+◌, ◌*◌, ◌<◌}
 use native.Mathlib.Omega.{arith}
@@ -31,7 +30,8 @@ loop-i-preserved c =
       refl,
       l.invariant.2,
       simp length-set l.invariant.3,
-      ap₂ (λ (u : List ℕ) (x : ℕ). set u l.i x) l.invariant.4 o ∙ over-more (octets_of d) t l.i (omega (arith, octets-length d)) (omega arith),
+      ap₂ (λ (u : List ℕ) (x : ℕ). set u l.i x) l.invariant.4 o
+          ∙ over-more (octets_of d) t l.i (omega (arith, octets-length d)) (omega arith),
     )
 
 pub returns : goal.returns

@@ -1,4 +1,3 @@
--- The loop's invariant: all of the list is hexadecimal where the worst value so far is a digit's and what is left is hexadecimal.
 use mathlib.Core.Path.{◌≡◌, refl, ap, ◌∙◌}
 use Prim.Native.Nat.{ℕ, ◌+◌, max}
 use native.Mathlib.Omega.{arith}
@@ -17,7 +16,8 @@ pub loop-i-preserved : goal.loop-i-preserved
 loop-i-preserved c =
     let l = c.loop-i in
     let s : List ℕ = c.args.s.now in
-    let w : c.greater-worst.result ≡ max l.worst (digit (get_or s l.i 0)) = c.greater-worst.ensures ∙ ap (max l.worst) c.value.ensures in
+    let w : c.greater-worst.result ≡ max l.worst (digit (get_or s l.i 0)) =
+    c.greater-worst.ensures ∙ ap (max l.worst) c.value.ensures in
     (omega arith, ap (λ (m : ℕ). ltb m 16 && is_hex (drop (l.i + 1) s)) w ∙ hex-more s l.worst l.i (omega arith) l.invariant.1)
 
 pub returns : goal.returns

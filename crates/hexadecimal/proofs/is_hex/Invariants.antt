@@ -1,4 +1,5 @@
--- The loop's invariant: all of the list is hexadecimal where the worst value so far is a digit's and what is left is hexadecimal.
+-- The loop's invariant: all of the list is hexadecimal where the worst value so far is a digit's and what is left is
+-- hexadecimal.
 use mathlib.Core.Path.{◌≡◌}
 use Prim.Native.Nat.{◌-◌, ◌≤◌}
 use mathlib.Core.Bool.{◌&&◌}

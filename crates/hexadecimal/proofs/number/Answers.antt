@@ -1,4 +1,3 @@
--- The loop's invariant: the number begun so far, carried on over the digits that are left, is the whole number, and is below 16 for each digit read.
 use mathlib.Core.Path.{◌≡◌, refl, ap, ◌∙◌}
 use Prim.Native.Nat.{ℕ, ◌+◌, ◌*◌}
 use native.Mathlib.Omega.{arith}

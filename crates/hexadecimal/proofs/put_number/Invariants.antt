@@ -7,7 +7,10 @@ use Rattle.hexadecimal.specs.Hex.{digits_of}
 use Rattle.hexadecimal.proofs.put_number.Given as goal
 
 abbrev pub invariant-loop-i : goal.invariant-loop-i
-invariant-loop-i l = (l.i ≤ l.n) × (length l.target ≡ length l.initial.target) × (put l.k (digits_of l.i l.rest) l.target ≡ put l.k (digits_of l.n l.x) l.initial.target)
+invariant-loop-i l =
+    (l.i ≤ l.n)
+    × (length l.target ≡ length l.initial.target)
+    × (put l.k (digits_of l.i l.rest) l.target ≡ put l.k (digits_of l.n l.x) l.initial.target)
 
 abbrev pub decreases-loop-i : goal.decreases-loop-i
 decreases-loop-i l = l.i

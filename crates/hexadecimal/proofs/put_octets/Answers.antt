@@ -1,4 +1,3 @@
--- The loop's invariant: writing the octets that are left completes the writing of all.
 use mathlib.Core.Path.{refl, sym, ap, ap₂, ◌∙◌}
 use Prim.Native.Nat.{ℕ, ◌+◌}
 use native.Mathlib.Omega.{arith}
@@ -26,7 +25,8 @@ loop-i-preserved c =
       omega arith,
       omega arith,
       simp length-set l.invariant.2,
-      ap₂ (λ (x y : ℕ). put (l.at + 2) (hex_of (drop (l.i + 1) a.s.now)) (set (set l.target l.at x) (l.at + 1) y)) c.capital.ensures c.capital-in-loop-i.ensures
+      ap₂ (λ (x y : ℕ). put (l.at + 2) (hex_of (drop (l.i + 1) a.s.now)) (set (set l.target l.at x) (l.at + 1) y))
+          c.capital.ensures c.capital-in-loop-i.ensures
           ∙ hex-more a.s.now l.target l.at l.i (omega arith) (c.type_inv.s l.i).fits (omega arith)
           ∙ l.invariant.3,
     )
@@ -35,4 +35,6 @@ pub returns : goal.returns
 returns c =
     let l = c.loop-i in
     let a = c.args in
-    sym (put-nil l.target l.at) ∙ ap (λ (s : List ℕ). put l.at (hex_of s) l.target) (sym (drop_of_length-le a.s.now {i = l.i} (omega arith))) ∙ l.invariant.3
+    sym (put-nil l.target l.at)
+    ∙ ap (λ (s : List ℕ). put l.at (hex_of s) l.target) (sym (drop_of_length-le a.s.now {i = l.i} (omega arith)))
+    ∙ l.invariant.3

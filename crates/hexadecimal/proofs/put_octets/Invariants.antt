@@ -7,7 +7,11 @@ use Rattle.hexadecimal.specs.Hex.{hex_of}
 use Rattle.hexadecimal.proofs.put_octets.Given as goal
 
 abbrev pub invariant-loop-i : goal.invariant-loop-i
-invariant-loop-i l = (l.i ≤ length l.s) × (l.at ≡ l.k + 2 * l.i) × (length l.target ≡ length l.initial.target) × (put l.at (hex_of (drop l.i l.s)) l.target ≡ put l.k (hex_of l.s) l.initial.target)
+invariant-loop-i l =
+    (l.i ≤ length l.s)
+    × (l.at ≡ l.k + 2 * l.i)
+    × (length l.target ≡ length l.initial.target)
+    × (put l.at (hex_of (drop l.i l.s)) l.target ≡ put l.k (hex_of l.s) l.initial.target)
 
 abbrev pub decreases-loop-i : goal.decreases-loop-i
 decreases-loop-i l = length l.s - l.i

@@ -15,7 +15,9 @@ returns c =
     let s : length a.source.now ≡ 32 = c.copy_into-arg-4-1.given in
     let d : length a.destination.now ≡ 32 = c.copy_into-arg-6-1.given in
     let w1 = next (none a.target.now) (common_octets a.h.common a.n) 24 refl c.put_common.ensures in
-    let w2 = next w1 (big_of 4 (unsigned a.h.reply_status)) 28 refl (c.put_big4.ensures ∙ ap (λ (x : ℕ). put 24 (big_of 4 x) c.put_common.new.target) c.status.ensures) in
+    let w2 =
+    next w1 (big_of 4 (unsigned a.h.reply_status)) 28 refl
+    (c.put_big4.ensures ∙ ap (λ (x : ℕ). put 24 (big_of 4 x) c.put_common.new.target) c.status.ensures) in
     let w3 = next w2 a.session_id.now 44 (ap (λ (k : ℕ). 28 + k) i) c.copy_into.ensures in
     let w4 = next w3 (big_of 4 a.h.reply_timeout) 48 refl c.put_big4-2.ensures in
     let w5 = next w4 a.source.now 80 (ap (λ (k : ℕ). 48 + k) s) c.copy_into-2.ensures in

@@ -1,4 +1,3 @@
--- The loop's invariant: the target's first i octets are zeros.
 use mathlib.Core.Path.{◌≡◌, refl, sym, ap₂, ◌∙◌}
 use mathlib.Core.List.{List}
 use Prim.Native.Nat.{ℕ, ◌<◌}

@@ -1,4 +1,3 @@
--- The loop's invariant: the target's first i octets are the source's.
 use mathlib.Core.Path.{refl, ap, ◌∙◌}
 use mathlib.Core.List.{List}
 use Prim.Native.Nat.{ℕ}
@@ -17,7 +16,8 @@ loop-i-preserved c =
       omega arith,
       l.invariant.1,
       simp length-set l.invariant.2,
-      ap (λ (t : List ℕ). set t l.i (get_or a.source.now l.i 0)) l.invariant.3 ∙ over-more a.source.now a.target.now l.i (omega arith) (omega arith),
+      ap (λ (t : List ℕ). set t l.i (get_or a.source.now l.i 0)) l.invariant.3
+          ∙ over-more a.source.now a.target.now l.i (omega arith) (omega arith),
     )
 
 pub shape_of-target : goal.shape_of-target

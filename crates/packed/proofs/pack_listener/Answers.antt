@@ -18,7 +18,9 @@ pub returns : goal.returns
 returns c =
     let a = c.args in
     let u : length a.l.uri ≡ 32 = search rules in
-    let w1 = next (none a.s.now) (little_of 4 (cond a.l.used 1 0)) 4 refl (c.put_little4.ensures ∙ ap (λ (n : ℕ). put 0 (little_of 4 n) a.s.now) c.used_number.ensures) in
+    let w1 =
+    next (none a.s.now) (little_of 4 (cond a.l.used 1 0)) 4 refl
+    (c.put_little4.ensures ∙ ap (λ (n : ℕ). put 0 (little_of 4 n) a.s.now) c.used_number.ensures) in
     let w2 = next w1 (little_of 4 a.l.com_id) 8 refl c.put_little4-2.ensures in
     let w3 = next w2 (little_of 4 a.l.senders.start) 12 refl c.put_little4-3.ensures in
     let w4 = next w3 (little_of 4 a.l.senders.end) 16 refl c.put_little4-4.ensures in
@@ -26,5 +28,6 @@ returns c =
     record {
       written = w5.holds ∙ put_all (listener_octets a.l) a.s.now (w5.long ∙ sym c.requires);
       long = w5.long;
-      back = listener-back a.l (search (rules, c.well_formed)) (search (rules, c.well_formed)) (search (rules, c.well_formed)) u;
+      back = listener-back a.l (search (rules, c.well_formed)) (search (rules, c.well_formed))
+          (search (rules, c.well_formed)) u;
     }

@@ -9,10 +9,27 @@ pub returns-then-n-eq2 : goal.returns-then-n-eq2
 returns-then-n-eq2 c = rw (ne_eqb c.args.n 1 c.if-n-eq1.false, eq-eqb c.args.n 2 c.if-n-eq2.true)
 
 pub returns-then-is_with_user : goal.returns-then-is_with_user
-returns-then-is_with_user c = rw (ne_eqb c.args.n 1 c.if-n-eq1.false, ne_eqb c.args.n 2 c.if-n-eq2.false, eq-eqb c.args.n 3 c.if-is_with_user.true)
+returns-then-is_with_user c =
+    rw (
+      ne_eqb c.args.n 1 c.if-n-eq1.false,
+      ne_eqb c.args.n 2 c.if-n-eq2.false,
+      eq-eqb c.args.n 3 c.if-is_with_user.true,
+    )
 
 pub returns-then-n-eq4 : goal.returns-then-n-eq4
-returns-then-n-eq4 c = rw (ne_eqb c.args.n 1 c.if-n-eq1.false, ne_eqb c.args.n 2 c.if-n-eq2.false, ne_eqb c.args.n 3 c.if-is_with_user.false, eq-eqb c.args.n 4 c.if-n-eq4.true)
+returns-then-n-eq4 c =
+    rw (
+      ne_eqb c.args.n 1 c.if-n-eq1.false,
+      ne_eqb c.args.n 2 c.if-n-eq2.false,
+      ne_eqb c.args.n 3 c.if-is_with_user.false,
+      eq-eqb c.args.n 4 c.if-n-eq4.true,
+    )
 
 pub returns : goal.returns
-returns c = rw (ne_eqb c.args.n 1 c.if-n-eq1.false, ne_eqb c.args.n 2 c.if-n-eq2.false, ne_eqb c.args.n 3 c.if-is_with_user.false, ne_eqb c.args.n 4 c.if-n-eq4.false)
+returns c =
+    rw (
+      ne_eqb c.args.n 1 c.if-n-eq1.false,
+      ne_eqb c.args.n 2 c.if-n-eq2.false,
+      ne_eqb c.args.n 3 c.if-is_with_user.false,
+      ne_eqb c.args.n 4 c.if-n-eq4.false,
+    )

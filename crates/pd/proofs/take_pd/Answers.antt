@@ -11,7 +11,8 @@ pub returns-then-r-ne0 : goal.returns-then-r-ne0
 returns-then-r-ne0 c = refuses Header Refused _ _ (header_of c.args.d.now) c.judge_datagram-r.ensures c.if-r-ne0.true
 
 pub header-requires : goal.header-requires
-header-requires c = (sound family.Pd c.args.d.now (whole family.Pd c.args.d.now (sym c.judge_datagram-r.ensures ∙ c.if-r-ne0.false)).0).size
+header-requires c =
+    (sound family.Pd c.args.d.now (whole family.Pd c.args.d.now (sym c.judge_datagram-r.ensures ∙ c.if-r-ne0.false)).0).size
 
 pub returns : goal.returns
 returns c = rw (← c.judge_datagram-r.ensures, c.if-r-ne0.false, c.header.ensures)

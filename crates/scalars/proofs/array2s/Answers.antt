@@ -1,4 +1,3 @@
--- The loop's invariant: what is left of the array, written at q, makes the target what the whole array makes it.
 use mathlib.Core.Path.{refl, sym, ap, ◌∙◌}
 use mathlib.Core.List.{[], ◌∷◌}
 use Prim.Native.Nat.{ℕ}
@@ -41,7 +40,8 @@ loop-i-preserved c =
       e.auto.target ∙ l.invariant.2,
       omega arith,
       l.invariant.4
-          ∙ array-more (2 ∷ 2 ∷ 2 ∷ 2 ∷ []) a.source.now l.target _ a.n l.i l.q (omega arith) l.invariant.1 (omega arith)
+          ∙ array-more (2 ∷ 2 ∷ 2 ∷ 2 ∷ []) a.source.now l.target _ a.n l.i l.q (omega arith) l.invariant.1
+          (omega arith)
           e.ensures,
     )
 

@@ -1,4 +1,3 @@
--- The loop's invariant: what is left of the array, written at q, makes the target what the whole array makes it.
 use mathlib.Core.Path.{refl, sym, ap, ◌∙◌}
 use mathlib.Core.List.{[], ◌∷◌}
 use Prim.Native.Nat.{ℕ}

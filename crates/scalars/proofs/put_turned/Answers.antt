@@ -11,4 +11,5 @@ use Rattle.scalars.proofs.put_turned.Goals as goal
 pub returns : goal.returns
 returns c =
     let a = c.args in
-    c.put_four.ensures ∙ ap (λ (l : List ℕ). put a.k l a.target.now) (of_four (λ l. get_or l 3 0 ∷ get_or l 2 0 ∷ get_or l 1 0 ∷ get_or l 0 0 ∷ []) reverse (λ w x y z. refl) a.a (search rules))
+    c.put_four.ensures
+    ∙ ap (λ (l : List ℕ). put a.k l a.target.now) (of_four (λ l. get_or l 3 0 ∷ get_or l 2 0 ∷ get_or l 1 0 ∷ get_or l 0 0 ∷ []) reverse (λ w x y z. refl) a.a (search rules))

@@ -1,4 +1,3 @@
--- The loop's invariant: the identifiers are equal exactly where they are from i on.
 use mathlib.Core.Path.{refl, sym, ◌∙◌}
 use native.Mathlib.Omega.{arith}
 use borrow.Author.Rules.{rules}

@@ -6,7 +6,8 @@ use Rattle.md.specs.Uri.{equal}
 use Rattle.session.proofs.are_equal.Given as goal
 
 abbrev pub invariant-loop-i : goal.invariant-loop-i
-invariant-loop-i l = (l.i ≤ 16) × (length l.a ≡ 16) × (length l.b ≡ 16) × (equal l.a l.b ≡ equal (drop l.i l.a) (drop l.i l.b))
+invariant-loop-i l =
+    (l.i ≤ 16) × (length l.a ≡ 16) × (length l.b ≡ 16) × (equal l.a l.b ≡ equal (drop l.i l.a) (drop l.i l.b))
 
 abbrev pub decreases-loop-i : goal.decreases-loop-i
 decreases-loop-i l = 16 - l.i

@@ -15,7 +15,8 @@ returns-in-WaitingForReply c =
 
 pub returns-in-OwingConfirm : goal.returns-in-OwingConfirm
 returns-in-OwingConfirm c =
-    let z : to_z w32 (of_z w32 c.code_if_up-in-OwingConfirm.result) ≡ c.code_if_up-in-OwingConfirm.result = search rules in
+    let z : to_z w32 (of_z w32 c.code_if_up-in-OwingConfirm.result) ≡ c.code_if_up-in-OwingConfirm.result =
+    search rules in
     rw c.in-OwingConfirm.is (z ∙ c.code_if_up-in-OwingConfirm.ensures)
 
 pub returns-in-WithUser : goal.returns-in-WithUser
@@ -25,5 +26,6 @@ returns-in-WithUser c =
 
 pub returns-in-WaitingForConfirm : goal.returns-in-WaitingForConfirm
 returns-in-WaitingForConfirm c =
-    let z : to_z w32 (of_z w32 c.code_if_up-in-WaitingForConfirm.result) ≡ c.code_if_up-in-WaitingForConfirm.result = search rules in
+    let z : to_z w32 (of_z w32 c.code_if_up-in-WaitingForConfirm.result) ≡ c.code_if_up-in-WaitingForConfirm.result =
+    search rules in
     rw c.in-WaitingForConfirm.is (z ∙ c.code_if_up-in-WaitingForConfirm.ensures)

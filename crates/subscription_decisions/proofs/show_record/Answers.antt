@@ -11,4 +11,5 @@ returns-in_default c =
 pub returns : goal.returns
 returns c =
     let x = c.args in
-    c.show.ensures ∙ record-shows x.slots x.k x.r x.substitute.now x.store.now _ (sym c.read_record-q.ensures ∙ c.in-Shows.is)
+    c.show.ensures
+    ∙ record-shows x.slots x.k x.r x.substitute.now x.store.now _ (sym c.read_record-q.ensures ∙ c.in-Shows.is)

@@ -22,5 +22,6 @@ returns c =
     let e : s.new.part ≡ part_after a.ev a.dataset.now a.r (part 1432 k a.store.now) =
     s.ensures.leaves ∙ ap (λ (m : ℕ). part_after a.ev a.dataset.now a.r (part m k a.store.now)) w in
     let l : k + 1432 - k ≡ length s.new.part =
-    w ∙ sym (ap length e ∙ after-length a.ev a.dataset.now a.r (part 1432 k a.store.now) (part_length 1432 k a.store.now (search rules))) in
+    w
+    ∙ sym (ap length e ∙ after-length a.ev a.dataset.now a.r (part 1432 k a.store.now) (part_length 1432 k a.store.now (search rules))) in
     (s.ensures.answers, put-mid k (k + 1432 - k) a.store.now s.new.part l ∙ ap (λ (y : List ℕ). put k y a.store.now) e)

@@ -13,7 +13,8 @@ use Rattle.telegram.specs.declared.Common.{Common}
 use Rattle.telegram.proofs.judge_datagram.Goals as goal
 
 pub returns-then-r-ne0 : goal.returns-then-r-ne0
-returns-then-r-ne0 c = header-first c.args.f c.args.d.now c.judge_header-r.result c.judge_header-r.ensures c.if-r-ne0.true
+returns-then-r-ne0 c =
+    header-first c.args.f c.args.d.now c.judge_header-r.result c.judge_header-r.ensures c.if-r-ne0.true
 
 pub read_common-c-requires : goal.read_common-c-requires
 read_common-c-requires c =
@@ -30,7 +31,9 @@ returns-then-is_whole c =
     let f = c.args.f in
     let d : List ℕ = c.args.d.now in
     let w : eqb (length d) (header_size f + padded (common_of d).dataset_length) ≡ true =
-    ap (λ (x : Common). eqb (length d) (header_size f + padded x.dataset_length)) (sym c.read_common-c.ensures) ∙ sym c.is_whole.ensures ∙ c.if-is_whole.true in
+    ap (λ (x : Common). eqb (length d) (header_size f + padded x.dataset_length)) (sym c.read_common-c.ensures)
+    ∙ sym c.is_whole.ensures
+    ∙ c.if-is_whole.true in
     rw (then-length f d (sym c.judge_header-r.ensures ∙ c.if-r-ne0.false), w)
 
 pub returns : goal.returns
@@ -38,5 +41,7 @@ returns c =
     let f = c.args.f in
     let d : List ℕ = c.args.d.now in
     let w : eqb (length d) (header_size f + padded (common_of d).dataset_length) ≡ false =
-    ap (λ (x : Common). eqb (length d) (header_size f + padded x.dataset_length)) (sym c.read_common-c.ensures) ∙ sym c.is_whole.ensures ∙ c.if-is_whole.false in
+    ap (λ (x : Common). eqb (length d) (header_size f + padded x.dataset_length)) (sym c.read_common-c.ensures)
+    ∙ sym c.is_whole.ensures
+    ∙ c.if-is_whole.false in
     rw (then-length f d (sym c.judge_header-r.ensures ∙ c.if-r-ne0.false), w)

@@ -16,7 +16,8 @@ pub is_damaged-requires : goal.is_damaged-requires
 is_damaged-requires c = (omega (arith, (bounds c.args.f).least, c.header_size-size.ensures), search rules)
 
 pub returns-then-is_damaged : goal.returns-then-is_damaged
-returns-then-is_damaged c = rw (← c.header_size-size.ensures, le-ltb _ _ c.if-d-size.false, ← c.is_damaged.ensures, c.if-is_damaged.true)
+returns-then-is_damaged c =
+    rw (← c.header_size-size.ensures, le-ltb _ _ c.if-d-size.false, ← c.is_damaged.ensures, c.if-is_damaged.true)
 
 pub read_common-requires : goal.read_common-requires
 read_common-requires c = omega (arith, (bounds c.args.f).least, c.header_size-size.ensures, c.if-d-size.false)

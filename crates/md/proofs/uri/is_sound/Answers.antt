@@ -1,4 +1,3 @@
--- The loop's invariant: the field is sound exactly where it is from i on.
 use mathlib.Core.Path.{refl, sym, ◌∙◌}
 use native.Mathlib.Omega.{arith}
 use Rattle.md.proofs.Texts.{sound-here, sound-next, sound-end}
@@ -11,7 +10,8 @@ pub returns-then-u-i-eq0 : goal.returns-then-u-i-eq0
 returns-then-u-i-eq0 c = sym (c.loop-i.invariant.1 ∙ sound-here c.args.u.now c.loop-i.i (omega arith) c.if-u-i-eq0.true)
 
 pub loop-i-preserved : goal.loop-i-preserved
-loop-i-preserved c = (omega arith, c.loop-i.invariant.1 ∙ sound-next c.args.u.now c.loop-i.i (omega arith) c.if-u-i-eq0.false)
+loop-i-preserved c =
+    (omega arith, c.loop-i.invariant.1 ∙ sound-next c.args.u.now c.loop-i.i (omega arith) c.if-u-i-eq0.false)
 
 pub returns : goal.returns
 returns c = sym (c.loop-i.invariant.1 ∙ sound-end c.args.u.now c.loop-i.i (omega arith))

@@ -8,15 +8,27 @@ pub returns-then-ahead-lt1 : goal.returns-then-ahead-lt1
 unfolding fresh
 returns-then-ahead-lt1 c =
     let a = c.args in
-    let e : ahead a.self.counter a.h.counter ≡ c.wrapping_sub_u32-ahead.result = omega (arith, c.wrapping_sub_u32-ahead.type_inv) in
-    rw (ne_eqb _ _ c.if-self-ne0.true, eq-eqb _ _ c.if-self-h.true, e, lt-leb 1 c.wrapping_sub_u32-ahead.result c.if-ahead-lt1.true)
+    let e : ahead a.self.counter a.h.counter ≡ c.wrapping_sub_u32-ahead.result =
+    omega (arith, c.wrapping_sub_u32-ahead.type_inv) in
+    rw (
+      ne_eqb _ _ c.if-self-ne0.true,
+      eq-eqb _ _ c.if-self-h.true,
+      e,
+      lt-leb 1 c.wrapping_sub_u32-ahead.result c.if-ahead-lt1.true,
+    )
 
 pub returns-then-self-h : goal.returns-then-self-h
 unfolding fresh
 returns-then-self-h c =
     let a = c.args in
-    let e : ahead a.self.counter a.h.counter ≡ c.wrapping_sub_u32-ahead.result = omega (arith, c.wrapping_sub_u32-ahead.type_inv) in
-    rw (ne_eqb _ _ c.if-self-ne0.true, eq-eqb _ _ c.if-self-h.true, e, le-leb 1 c.wrapping_sub_u32-ahead.result c.if-ahead-lt1.false)
+    let e : ahead a.self.counter a.h.counter ≡ c.wrapping_sub_u32-ahead.result =
+    omega (arith, c.wrapping_sub_u32-ahead.type_inv) in
+    rw (
+      ne_eqb _ _ c.if-self-ne0.true,
+      eq-eqb _ _ c.if-self-h.true,
+      e,
+      le-leb 1 c.wrapping_sub_u32-ahead.result c.if-ahead-lt1.false,
+    )
 
 pub returns-else-self-h : goal.returns-else-self-h
 unfolding fresh
