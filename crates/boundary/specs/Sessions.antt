@@ -25,7 +25,7 @@ outcome_of (table.refused r status) = refused r
 abbrev pub told : ℕ → ℕ → ℤ → ℕ → ℕ → MdOutcome
 told kind refusal status listener session = record { kind = kind; refusal = refusal; status = status; listener = listener; session = session }
 
--- Mn names its listener; Mr its listener and its session; the others reply_status and the session. A refusal carries its status
+-- Mn names its listener; Mr its listener and its session; the others replyStatus and the session. A refusal carries its status
 abbrev pub md_outcome_of : table.Answer → MdOutcome
 md_outcome_of (table.listening k) = told 0 0 (pos 0) 0 0
 md_outcome_of table.freed = told 0 0 (pos 0) 0 0

@@ -61,7 +61,7 @@ no_md_datagram r =
       destination_uri = replicate 32 0;
     }
 
--- of datagram d: session_id 16 at 28, source URI 32 at 48, destination URI 32 at 80
+-- of datagram d: sessionId 16 at 28, source URI 32 at 48, destination URI 32 at 80
 abbrev pub of_md_taken : List ℕ → MdTaken → MdDatagram
 of_md_taken d (md.Header h) =
     record {

@@ -66,7 +66,7 @@ pub struct Shown {
     pub length: usize,
 }
 
-// What becomes of an MD telegram. Kind: 0 refused, 1 notified, 2 requested, 3 taken. Status: reply_status of what was taken, or
+// What becomes of an MD telegram. Kind: 0 refused, 1 notified, 2 requested, 3 taken. Status: replyStatus of what was taken, or
 // the status that a refusal carries.
 #[repr(C)]
 #[derive(Clone, Copy)]

@@ -27,7 +27,7 @@ has_pair s = digits_at 8 0 s && (space_at 8 s && digits_at 8 9 s)
 abbrev pub is_head : List ℕ → Bool
 is_head s = eqb (length s) 17 && has_pair s
 
--- line 1: local etb_topo_cnt and op_trn_topo_cnt, 8 digits each
+-- line 1: local etbTopoCnt and opTrnTopoCnt, 8 digits each
 abbrev pub head_of : List ℕ → HeadLine
 head_of s =
     cond (is_head s) (head.Counters (record { etb_topo_cnt = number_at 8 0 s; op_trn_topo_cnt = number_at 8 9 s })) head.Bad

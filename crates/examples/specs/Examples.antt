@@ -13,7 +13,7 @@ use Rattle.dataset.specs.declared.Form.TheVariants.{Wire, Host}
 pub data Question : Type 0 where
   check_of : List ℕ → Question
   padded_length : ℕ → Question
-  -- a telegram's etb_topo_cnt and op_trn_topo_cnt, and the local ones
+  -- a telegram's etbTopoCnt and opTrnTopoCnt, and the local ones
   topography : ℕ → ℕ → ℕ → ℕ → Question
   -- the counter last taken from a sender, and the one that comes
   fresh_after : ℕ → ℕ → Question

@@ -34,7 +34,7 @@ pub record MdInRange (h : MdHeader) : Type 0 where
   pub reply-status : SFits w32 h.reply_status
   pub reply-timeout : h.reply_timeout < 2 ^ 32
 
--- the header as it is read back: dataset_length is that of the dataset
+-- the header as it is read back: datasetLength is that of the dataset
 abbrev pub read_back : MdHeader → ℕ → MdHeader
 read_back h n = record { common = with_length h.common n; reply_status = h.reply_status; reply_timeout = h.reply_timeout }
 

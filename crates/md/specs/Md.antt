@@ -9,12 +9,12 @@ use Rattle.md.specs.declared.MdHeader.{MdHeader}
 use Rattle.md.specs.declared.MdTaken.{MdTaken}
 use Rattle.md.specs.declared.MdTaken.TheVariants.{Header, Refused}
 
--- reply_status 4 (signed) at 24, reply_timeout 4 at 44
+-- replyStatus 4 (signed) at 24, replyTimeout 4 at 44
 abbrev pub header_of : List ℕ → MdHeader
 header_of d =
     record { common = common_of d; reply_status = signed (big (part 4 24 d)); reply_timeout = big (part 4 44 d) }
 
--- session_id 16 at 28; zeros where the datagram has no such field
+-- sessionId 16 at 28; zeros where the datagram has no such field
 abbrev pub session_id_of : List ℕ → List ℕ
 session_id_of d = cond (leb 44 (length d)) (part 16 28 d) (replicate 16 0)
 

@@ -12,7 +12,7 @@ ghost use Rattle.md.specs.Md.{header_of, session_id_of, source_uri_of, destinati
 
 use telegram::{Common, Family, Written};
 
-// The numbers of an MD header; identifier and URI fields stand beside it. A writer takes dataset_length from the dataset.
+// The numbers of an MD header; identifier and URI fields stand beside it. A writer takes datasetLength from the dataset.
 #[repr(C)]
 #[derive(Clone, Copy)]
 pub struct MdHeader {
@@ -111,7 +111,7 @@ fn are_sound(source: &[u8; 32], destination: &[u8; 32]) -> bool
     false
 }
 
-// reply_status as it is written.
+// replyStatus as it is written.
 fn status(h: MdHeader) -> u32
     ensures { result ≡ unsigned h.reply_status }
 {

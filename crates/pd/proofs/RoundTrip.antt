@@ -29,7 +29,7 @@ pub record PdInRange (h : PdHeader) : Type 0 where
   pub reply-com-id : h.reply_com_id < 2 ^ 32
   pub reply-ip-address : h.reply_ip_address < 2 ^ 32
 
--- the header as it is read back: dataset_length is that of the dataset
+-- the header as it is read back: datasetLength is that of the dataset
 abbrev pub read_back : PdHeader → ℕ → PdHeader
 read_back h n =
     record {

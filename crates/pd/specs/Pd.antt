@@ -8,7 +8,7 @@ use Rattle.pd.specs.declared.PdHeader.{PdHeader}
 use Rattle.pd.specs.declared.PdTaken.{PdTaken}
 use Rattle.pd.specs.declared.PdTaken.TheVariants.{Header, Refused}
 
--- reserved 4 at 24, reply_com_id 4 at 28, reply_ip_address 4 at 32
+-- reserved 4 at 24, replyComId 4 at 28, replyIpAddress 4 at 32
 abbrev pub header_of : List ℕ → PdHeader
 header_of d =
     record {

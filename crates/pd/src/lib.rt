@@ -9,7 +9,7 @@ ghost use Rattle.pd.specs.Pd.{header_of, refusal_of, take_header, take_pd, frame
 
 use telegram::{Common, Family, Written};
 
-// The fields of a PD header. A writer takes dataset_length from the dataset.
+// The fields of a PD header. A writer takes datasetLength from the dataset.
 #[repr(C)]
 #[derive(Clone, Copy)]
 pub struct PdHeader {

@@ -41,7 +41,7 @@ version = 4
 abbrev pub msg_type : ℕ
 msg_type = 5
 
--- dataset_length over its limit, or datagram not as long as header plus padded dataset
+-- datasetLength over its limit, or datagram not as long as header plus padded dataset
 abbrev pub wrong_length : ℕ
 wrong_length = 6
 

@@ -11,7 +11,7 @@ pub const FRAME_CHECK: u8 = 3;
 pub const VERSION: u8 = 4;
 // type not of this family
 pub const MSG_TYPE: u8 = 5;
-// dataset_length over its limit, or datagram not as long as header plus padded dataset
+// datasetLength over its limit, or datagram not as long as header plus padded dataset
 pub const LENGTH: u8 = 6;
 // topography
 pub const TOPOGRAPHY: u8 = 7;

@@ -44,7 +44,7 @@ pub data Answer : Type 0 where
   notified : ℕ → Answer
   -- a request: the listener, and the session's slot
   requested : ℕ → ℕ → Answer
-  -- reply_status and slot
+  -- replyStatus and slot
   taken : ℤ → ℕ → Answer
   replied : Answer
   confirmed : Answer

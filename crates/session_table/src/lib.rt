@@ -30,7 +30,7 @@ pub enum Answer {
     Notified(usize),
     // A request: the listener, and the session's slot.
     Requested(usize, usize),
-    // reply_status, and the session's slot.
+    // replyStatus, and the session's slot.
     Taken(i32, usize),
     Replied,
     Confirmed,

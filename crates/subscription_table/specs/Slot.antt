@@ -68,7 +68,7 @@ wants h x = record_wants h x.slot
 abbrev pub takes : Heard → Cell → Bool
 takes h x = record_takes h x.slot
 
--- the part's first dataset_length octets become the dataset; the rest of the part stays
+-- the part's first datasetLength octets become the dataset; the rest of the part stays
 abbrev pub taken : Heard → List ℕ → Cell → Cell
 taken h s x = record { slot = record_taken h (length s) x.slot; octets = s ++ drop (length s) x.octets }
 

@@ -22,7 +22,7 @@ pub record InRange (c : Common) : Type 0 where
   pub etb-topo-cnt : c.etb_topo_cnt < 2 ^ 32
   pub op-trn-topo-cnt : c.op_trn_topo_cnt < 2 ^ 32
 
--- the same fields with another dataset_length
+-- the same fields with another datasetLength
 abbrev pub with_length : Common → ℕ → Common
 with_length c n =
     record {

@@ -14,7 +14,7 @@ abbrev pub header_size : Family → ℕ
 header_size Pd = 40
 header_size Md = 116
 
--- dataset_length 0..1432; 0..65388
+-- datasetLength 0..1432; 0..65388
 abbrev pub dataset_limit : Family → ℕ
 dataset_limit Pd = 1432
 dataset_limit Md = 65388

@@ -6,7 +6,7 @@ use Rattle.topography.specs.declared.TopoCounts.{TopoCounts}
 abbrev pub agrees : ℕ → ℕ → Bool
 agrees counter local = eqb counter 0 || eqb counter local
 
--- op_trn_topo_cnt not 0 beside etb_topo_cnt 0 is refused
+-- opTrnTopoCnt not 0 beside etbTopoCnt 0 is refused
 abbrev pub alone : TopoCounts → Bool
 alone t = eqb t.etb_topo_cnt 0 && not (eqb t.op_trn_topo_cnt 0)
 

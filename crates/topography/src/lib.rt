@@ -23,7 +23,7 @@ fn agree(counter: u32, local: u32) -> bool
     counter == local
 }
 
-// op_trn_topo_cnt is not 0 beside etb_topo_cnt 0.
+// opTrnTopoCnt is not 0 beside etbTopoCnt 0.
 #[tactic(auto, using(refusal::proofs::Tests::tests))]
 fn is_alone(telegram: TopoCounts) -> bool
     ensures { result ≡ alone telegram }
