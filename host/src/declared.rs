@@ -73,6 +73,17 @@ fn plain(name: &str) -> String {
     }
 }
 
+/// An array's length: a number, or a constant of the crate `packed`, which names the sizes of what is lent.
+fn number(count: &str) -> String {
+    if count.bytes().all(|octet| octet.is_ascii_digit()) {
+        return count.into();
+    }
+    let constant = format!("pub const {count}: usize = ");
+    let text = read("crates/packed/src/lib.rt");
+    let from = text.find(&constant).expect("a constant") + constant.len();
+    text[from..].split(';').next().expect("a number").into()
+}
+
 /// What a parameter or field of Rattle or Rust is in C: a slice is a pointer and a length, an array that is lent a pointer.
 fn in_c(rust: &str) -> Vec<String> {
     for (reference, constant) in [("&mut ", ""), ("*mut ", ""), ("*const ", "const "), ("&", "const ")] {
@@ -83,7 +94,7 @@ fn in_c(rust: &str) -> Vec<String> {
         return if inner.contains(';') { vec![pointer] } else { vec![pointer, "size_t".into()] };
     }
     match rust.strip_prefix('[').and_then(|array| array.strip_suffix(']')).and_then(|array| array.split_once("; ")) {
-        Some((element, count)) => vec![format!("{}[{count}]", plain(element))],
+        Some((element, count)) => vec![format!("{}[{}]", plain(element), number(count))],
         None => vec![plain(rust)],
     }
 }

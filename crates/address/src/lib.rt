@@ -2,51 +2,37 @@
 #![tactic(auto)]
 
 ghost use Rattle.std.specs.Prelude.{◌≡◌};
-ghost use Rattle.address.specs.SenderRange.{reversed, admits, same};
+ghost use Rattle.address.specs.SenderRange.{reversed, admits};
 
-// Both ends 0: any sender; end 0: only the start; else start to end.
+// Both ends 0: any sender; end 0: only the start; else start to end. Two ranges are equal as written.
 #[repr(C)]
-#[derive(Clone, Copy)]
+#[derive(Clone, Copy, PartialEq, Eq)]
 pub struct SenderRange {
     pub start: u32,
     pub end: u32,
 }
 
-// The end is not 0 and below the start: refusal 11.
-#[tactic(auto, using(refusal::proofs::Tests::tests))]
-pub fn is_reversed(f: SenderRange) -> bool
-    ensures { result ≡ reversed f }
-{
-    if f.end == 0 {
-        return false;
-    }
-    f.end < f.start
-}
+impl SenderRange {
+    // Any sender.
+    pub const ANY: Self = Self { start: 0, end: 0 };
 
-// The range admits a sender.
-#[tactic(auto, using(refusal::proofs::Tests::tests))]
-pub fn admit(f: SenderRange, sender: u32) -> bool
-    ensures { result ≡ admits f sender }
-{
-    if f.end == 0 {
-        if f.start == 0 {
-            return true;
+    // The end is not 0 and below the start: refusal 11.
+    #[tactic(auto, using(refusal::proofs::Tests::tests))]
+    pub fn is_reversed(self) -> bool
+        ensures { result ≡ reversed self }
+    {
+        self.end != 0 && self.end < self.start
+    }
+
+    // The range admits a sender.
+    #[tactic(auto, using(refusal::proofs::Tests::tests))]
+    pub fn admits(self, sender: u32) -> bool
+        ensures { result ≡ admits self sender }
+    {
+        if self.end == 0 {
+            self.start == 0 || self.start == sender
+        } else {
+            self.start <= sender && sender <= self.end
         }
-        return f.start == sender;
     }
-    if f.start <= sender {
-        return sender <= f.end;
-    }
-    false
-}
-
-// Two ranges are equal as written.
-#[tactic(auto, using(refusal::proofs::Tests::tests))]
-pub fn are_same(f: SenderRange, g: SenderRange) -> bool
-    ensures { result ≡ same f g }
-{
-    if f.start == g.start {
-        return f.end == g.end;
-    }
-    false
 }

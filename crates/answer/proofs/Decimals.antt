@@ -1,9 +1,9 @@
--- The fewest digits in base 10 that hold a number of 64 bits are its decimal digits; what a signed number's sign and bits say.
+-- The fewest digits in base 10 that hold a number of 64 bits are its decimal digits; a signed number's sign and absolute value.
 -- Assumes nothing.
-use Rattle.std.proofs.Common.{◌≡◌, ℕ, zero, suc, ◌+◌, ◌-◌, ◌*◌, ◌/◌, ◌%◌, ◌^◌, ◌<◌, ◌≤◌, Bool, true, false, cond, List, [], ◌∷◌, ◌++◌, ℤ, pos, negsuc, sym, refl, ap, ◌∙◌, subst, ap₂, true≢false, pow-suc, arith, to_z-of_z, w32, SFits, to_z, of_z, ltb-true, le-ltb, lt-ltb}
+use Rattle.std.proofs.Common.{◌≡◌, ℕ, zero, suc, ◌+◌, ◌-◌, ◌*◌, ◌/◌, ◌%◌, ◌^◌, ◌<◌, ◌≤◌, Bool, true, false, cond, List, [], ◌∷◌, ◌++◌, ℤ, pos, negsuc, sym, ap, ◌∙◌, subst, ap₂, true≢false, pow-suc, arith, ltb-true, le-ltb, lt-ltb}
 use native.Mathlib.Nat.{one-le-pow}
 use lib.Signed.{lt_z}
-use Rattle.octets.specs.Octets.{unsigned}
+use Rattle.std.specs.Prelude.{nat_abs}
 use Rattle.io.specs.Digits.{hex_digit_ascii, last_digits, IsDigitCount}
 use Rattle.answer.specs.Answer.{ascii, decimal_in, decimal_of, decimal, signed}
 
@@ -50,25 +50,13 @@ pub decimal-is : (x k : ℕ) → x < 2 ^ 64 → IsDigitCount 10 1 x k → last_d
 unfolding decimal_of
 decimal-is x k h f = spelt 19 k x (omega arith) f
 
-below : (x : ℤ) (v : ℕ) → SFits w32 x → lt_z x (pos 0) ≡ true → v < 2 ^ 32 → (v + unsigned x) % 2 ^ 32 ≡ 0 → signed x ≡ ascii " -" ∷ decimal_of v ∷ []
+-- a negative number is a minus sign and its absolute value
+pub negative : (x : ℤ) (v : ℕ) → lt_z x (pos 0) ≡ true → v ≡ nat_abs x → signed x ≡ ascii " -" ∷ decimal_of v ∷ []
 unfolding signed
-below (pos n) v f e h m = absurd (omega (arith, ltb-true n 0 e))
-below (negsuc n) v f e h m =
-    let b : n < 2 ^ 31 = f.sfits in
-    let k : suc n ≡ v = omega arith in
-    ap (λ (j : ℕ). ascii " -" ∷ decimal_of j ∷ []) k
+negative (pos n) v h e = absurd (omega (arith, ltb-true n 0 h))
+negative (negsuc n) v h e = ap (λ (k : ℕ). ascii " -" ∷ decimal_of k ∷ []) (sym e)
 
-above : (x : ℤ) → lt_z x (pos 0) ≡ false → signed x ≡ decimal (unsigned x)
+pub not_negative : (x : ℤ) (v : ℕ) → lt_z x (pos 0) ≡ false → v ≡ nat_abs x → signed x ≡ decimal v
 unfolding signed
-above (pos n) e = refl
-above (negsuc n) e = absurd (true≢false e)
-
--- a negative number: what its bits lack of 2^32 is its absolute value
-module _ (x : ℤ) (u : ℕ) (f : SFits w32 x) where
-  pub negative : (v : ℕ) → lt_z (to_z w32 (of_z w32 x)) (pos 0) ≡ true → u ≡ unsigned (to_z w32 (of_z w32 x)) → v < 2 ^ 32 → (v + u) % 2 ^ 32 ≡ 0 → signed x ≡ ascii " -" ∷ decimal_of v ∷ []
-  negative v e d h m =
-      let k : u ≡ unsigned x = d ∙ ap unsigned (to_z-of_z f) in
-      below x v f (subst (λ (z : ℤ). lt_z z (pos 0) ≡ true) (to_z-of_z f) e) h (subst (λ (w : ℕ). (v + w) % 2 ^ 32 ≡ 0) k m)
-
-  pub not_negative : lt_z (to_z w32 (of_z w32 x)) (pos 0) ≡ false → u ≡ unsigned (to_z w32 (of_z w32 x)) → signed x ≡ decimal u
-  not_negative e d = above x (subst (λ (z : ℤ). lt_z z (pos 0) ≡ false) (to_z-of_z f) e) ∙ ap decimal (sym (d ∙ ap unsigned (to_z-of_z f)))
+not_negative (pos n) v h e = ap decimal (sym e)
+not_negative (negsuc n) v h e = absurd (true≢false h)

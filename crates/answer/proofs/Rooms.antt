@@ -7,6 +7,8 @@ use Rattle.octets.specs.Octets.{put}
 use Rattle.hexadecimal.specs.Hex.{hex_of}
 use Rattle.octets.proofs.Halves.{put-append, put-nil}
 use mathlib.Core.Option.{Option, none, some}
+use Rattle.answer.specs.declared.Room.{Room as Lent}
+use Rattle.answer.specs.Lent.{Fills}
 use Rattle.answer.specs.Answer.{Room, room, put_piece, put_all, Puts, answered_by, Answers, ascii, spaced}
 
 -- what is written within a list leaves its length
@@ -135,3 +137,31 @@ module _ {x : Option (List (List ℕ))} where
 pub hex-length : (s : List ℕ) → length (hex_of s) ≡ 2 * length s
 hex-length [] = refl
 hex-length (x ∷ s) = let h : length (hex_of s) ≡ 2 * length s = hex-length s in omega arith
+
+-- the same of a lent room
+infixl 20 ◌▹◌
+pub ◌▹◌ : {ss ts : List (List ℕ)} {a b c : Lent} → Fills ss a b → Fills ts b c → Fills (ss ++ ts) a c
+◌▹◌ x y = record { filled = x.filled ⨟ y.filled; memory = y.memory ∙ x.memory }
+
+pub behind : {s : List ℕ} {a b c : Lent} → Fills (ascii " " ∷ []) a b → Fills (s ∷ []) b c → Fills (spaced s) a c
+unfolding spaced
+behind x y = x ▹ y
+
+module _ {ss : List (List ℕ)} {a b : Lent} where
+  pub filled_as : (ts : List (List ℕ)) → ss ≡ ts → Fills ss a b → Fills ts a b
+  filled_as ts e x = record { filled = pieces ts e x.filled; memory = x.memory }
+
+  pub same_length : Fills ss a b → length b.octets.now ≡ length a.octets.now
+  same_length x = long x.filled
+
+-- behind a piece the place is within the room
+pub inside : {s : List ℕ} {ss : List (List ℕ)} {a b : Lent} → Fills (s ∷ ss) a b → b.at ≤ length b.octets.now
+inside x = omega (arith, within x.filled, long x.filled)
+
+-- one piece that fits, and one that does not
+module _ (s : List ℕ) {a b : Lent} where
+  pub fill_fits : b.at ≡ a.at + length s → b.at ≤ length a.octets.now → b.octets.now ≡ put a.at s a.octets.now → b.octets.ghost_name ≡ a.octets.ghost_name → Fills (s ∷ []) a b
+  fill_fits n h e m = record { filled = fits s a.at b.at n h e; memory = m }
+
+  pub fill_over : length a.octets.now < a.at + length s → b.at ≡ length a.octets.now → b.octets.now ≡ a.octets.now → b.octets.ghost_name ≡ a.octets.ghost_name → Fills (s ∷ []) a b
+  fill_over h n e m = record { filled = record { puts = ap₂ room n e ∙ sym (piece-over s a.at a.octets.now h) }; memory = m }

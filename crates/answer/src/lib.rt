@@ -1,118 +1,162 @@
-// An answer gathered in a room of octets, piece by piece. Each function answers the place behind its pieces; a piece that does not fit is left out, and
-// then the place is the room's end.
+// An answer gathered in a room of octets, piece by piece. A piece that does not fit is left out, and then the place is
+// the room's end.
 #![tactic(auto)]
 
-ghost use Rattle.std.specs.Prelude.{[], ◌∷◌};
-ghost use Rattle.answer.specs.Answer.{Puts, spaced, decimal_of};
+ghost use Rattle.std.specs.Prelude.{◌≡◌, ℕ, [], ◌∷◌};
+ghost use Rattle.answer.specs.Answer.{spaced, decimal_of};
 ghost use Rattle.answer.specs.Answer.{decimal as decimal_word, number as number_word, octets as octets_word, signed as signed_word, word_of, refused as refused_word};
+ghost use Rattle.answer.specs.Lent.{Fills};
 
-// Octets put at a place.
-pub fn text(out: &mut [u8], at: usize, s: &[u8]) -> usize
-    ensures { Puts (s.now ∷ []) at out.old result out.new }
-{
-    if at <= out.len() {
-        if s.len() <= out.len() - at {
-            octets::copy_into(out, at, s);
-            return at + s.len();
+// A number that is put in as many hexadecimal digits as its type has.
+pub trait Number: Copy {
+    ghost DIGITS: { ℕ };
+
+    ghost value: { Self → ℕ };
+
+    const DIGITS: usize;
+
+    fn wide(self) -> u64
+        ensures { result ≡ value self };
+}
+
+impl Number for u16 {
+    ghost DIGITS = { 4 };
+
+    ghost value = { λ x. x };
+
+    const DIGITS: usize = 4;
+
+    fn wide(self) -> u64 {
+        u64::from(self)
+    }
+}
+
+impl Number for u32 {
+    ghost DIGITS = { 8 };
+
+    ghost value = { λ x. x };
+
+    const DIGITS: usize = 8;
+
+    fn wide(self) -> u64 {
+        u64::from(self)
+    }
+}
+
+impl Number for u64 {
+    ghost DIGITS = { 16 };
+
+    ghost value = { λ x. x };
+
+    const DIGITS: usize = 16;
+
+    fn wide(self) -> u64 {
+        self
+    }
+}
+
+// A lent room, and the place where the next piece goes.
+#[derive(Drop)]
+pub struct Room<'a> {
+    pub octets: &'a mut [u8],
+    pub at: usize,
+}
+
+impl<'a> Room<'a> {
+    // Octets put at the place.
+    pub fn text(&mut self, s: &[u8])
+        ensures { Fills (s.now ∷ []) self.old self.new }
+    {
+        if self.at <= self.octets.len() && s.len() <= self.octets.len() - self.at {
+            octets::copy_into(self.octets, self.at, s);
+            self.at += s.len();
+        } else {
+            self.at = self.octets.len();
         }
     }
-    out.len()
-}
 
-// A space and a word.
-pub fn word(out: &mut [u8], at: usize, s: &[u8]) -> usize
-    ensures { Puts (spaced s.now) at out.old result out.new }
-{
-    let p = text(out, at, b" ");
-    text(out, p, s)
-}
-
-// A number in decimal.
-pub fn digits(out: &mut [u8], at: usize, x: u64) -> usize
-    ensures { Puts (decimal_of x ∷ []) at out.old result out.new }
-{
-    let mut d = [0u8; 20];
-    let n = io::decimal(x, &mut d);
-    text(out, at, &d[..n])
-}
-
-// A space and a number in decimal.
-pub fn decimal(out: &mut [u8], at: usize, x: u64) -> usize
-    ensures { Puts (decimal_word x) at out.old result out.new }
-{
-    let p = text(out, at, b" ");
-    digits(out, p, x)
-}
-
-// A space and a number in so many hexadecimal digits.
-fn number(out: &mut [u8], at: usize, width: usize, x: u64) -> usize
-    ensures { Puts (number_word width x) at out.old result out.new }
-{
-    let p = text(out, at, b" ");
-    if width <= out.len() - p {
-        hexadecimal::put_number(out, p, width, x);
-        return p + width;
+    // A space and a word.
+    pub fn word(&mut self, s: &[u8])
+        ensures { Fills (spaced s.now) self.old self.new }
+    {
+        self.text(b" ");
+        self.text(s);
     }
-    out.len()
-}
 
-// A space and a number of 4 digits.
-pub fn number4(out: &mut [u8], at: usize, x: u16) -> usize
-    ensures { Puts (number_word 4 x) at out.old result out.new }
-{
-    number(out, at, 4, x as u64)
-}
-
-// A space and a number of 8 digits.
-pub fn number8(out: &mut [u8], at: usize, x: u32) -> usize
-    ensures { Puts (number_word 8 x) at out.old result out.new }
-{
-    number(out, at, 8, x as u64)
-}
-
-// A space and a number of 16 digits.
-pub fn number16(out: &mut [u8], at: usize, x: u64) -> usize
-    ensures { Puts (number_word 16 x) at out.old result out.new }
-{
-    number(out, at, 16, x)
-}
-
-// A space and a signed number in decimal.
-pub fn signed(out: &mut [u8], at: usize, x: i32) -> usize
-    ensures { Puts (signed_word x) at out.old result out.new }
-{
-    let u = octets::to_unsigned(x);
-    let is_negative = x < 0;
-    if is_negative {
-        let p = text(out, at, b" -");
-        return digits(out, p, std::num::wrapping_sub_u32(0, u) as u64);
+    // A number in decimal.
+    pub fn digits(&mut self, x: u64)
+        ensures { Fills (decimal_of x ∷ []) self.old self.new }
+    {
+        let mut d = [0u8; 20];
+        let n = io::decimal(x, &mut d);
+        self.text(&d[..n]);
     }
-    decimal(out, at, u as u64)
-}
 
-// A space and octets in hexadecimal.
-pub fn octets(out: &mut [u8], at: usize, s: &[u8]) -> usize
-    ensures { Puts (octets_word s.now) at out.old result out.new }
-{
-    let p = text(out, at, b" ");
-    if s.len() <= (out.len() - p) / 2 {
-        hexadecimal::put_octets(out, p, s);
-        return p + 2 * s.len();
+    // A space and a number in decimal.
+    pub fn decimal(&mut self, x: u64)
+        ensures { Fills (decimal_word x) self.old self.new }
+    {
+        self.text(b" ");
+        self.digits(x);
     }
-    out.len()
-}
 
-// A space, a word and a number in decimal.
-pub fn word_of(out: &mut [u8], at: usize, s: &[u8], x: usize) -> usize
-    ensures { Puts (word_of s.now x) at out.old result out.new }
-{
-    let p = word(out, at, s);
-    decimal(out, p, x as u64)
-}
+    // A space and a number in so many hexadecimal digits.
+    fn digits_of(&mut self, width: usize, x: u64)
+        ensures { Fills (number_word width x) self.old self.new }
+    {
+        self.text(b" ");
+        if width <= self.octets.len() - self.at {
+            hexadecimal::put_number(self.octets, self.at, width, x);
+            self.at += width;
+        } else {
+            self.at = self.octets.len();
+        }
+    }
 
-// `refused` and a number of document 01.
-pub fn refused(out: &mut [u8], at: usize, number: u8) -> usize
-    ensures { Puts (refused_word number) at out.old result out.new }
-{
-    word_of(out, at, b"refused", number as usize)
+    // A space and a number in the hexadecimal digits of its type.
+    pub fn number<T: Number>(&mut self, x: T)
+        ensures { Fills (number_word T.DIGITS (T.value x)) self.old self.new }
+    {
+        self.digits_of(T::DIGITS, x.wide());
+    }
+
+    // A space and a signed number in decimal.
+    pub fn signed(&mut self, x: i32)
+        ensures { Fills (signed_word x) self.old self.new }
+    {
+        if x < 0 {
+            self.text(b" -");
+            self.digits(u64::from(x.unsigned_abs()));
+        } else {
+            self.decimal(u64::from(x.unsigned_abs()));
+        }
+    }
+
+    // A space and octets in hexadecimal.
+    pub fn octets(&mut self, s: &[u8])
+        ensures { Fills (octets_word s.now) self.old self.new }
+    {
+        self.text(b" ");
+        if s.len() <= (self.octets.len() - self.at) / 2 {
+            hexadecimal::put_octets(self.octets, self.at, s);
+            self.at += 2 * s.len();
+        } else {
+            self.at = self.octets.len();
+        }
+    }
+
+    // A space, a word and a number in decimal.
+    pub fn word_of(&mut self, s: &[u8], x: usize)
+        ensures { Fills (word_of s.now x) self.old self.new }
+    {
+        self.word(s);
+        self.decimal(x as u64);
+    }
+
+    // `refused` and a number of document 01.
+    pub fn refused(&mut self, number: u8)
+        ensures { Fills (refused_word number) self.old self.new }
+    {
+        self.word_of(b"refused", usize::from(number));
+    }
 }

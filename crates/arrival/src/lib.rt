@@ -18,14 +18,15 @@ pub struct Arrival {
     pub local: TopoCounts,
 }
 
-// A header's counters pass beside the local ones; else refusal 7.
-pub fn is_local(c: Common, a: Arrival) -> bool
-    ensures { result ≡ passes (counts_of c) a.local }
-{
-    let local = a.local;
-    let counts = TopoCounts {
-        etb_topo_cnt: c.etb_topo_cnt,
-        op_trn_topo_cnt: c.op_trn_topo_cnt,
-    };
-    topography::pass(counts, local)
+impl Arrival {
+    // A header's counters pass beside the local ones; else refusal 7.
+    pub fn is_local(self, c: Common) -> bool
+        ensures { result ≡ passes (counts_of c) self.local }
+    {
+        let counts = TopoCounts {
+            etb_topo_cnt: c.etb_topo_cnt,
+            op_trn_topo_cnt: c.op_trn_topo_cnt,
+        };
+        counts.pass(self.local)
+    }
 }

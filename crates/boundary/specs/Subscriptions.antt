@@ -1,12 +1,12 @@
 -- The answers of the calls on the subscription table, as structs of numbers.
-use Rattle.std.specs.Prelude.{ℕ, ◌*◌, Bool, true, false, cond}
+use Rattle.std.specs.Prelude.{ℕ, ◌*◌, cond, false, Ok, Err, Result}
+use Rattle.refusal.specs.Refusal.{number}
+use Rattle.refusal.specs.declared.Refusal.{Refusal}
 use Rattle.subscription_table.specs.Slot.{slot_octets}
 use Rattle.subscription_table.specs.Table as table
-use Rattle.subscription_table.specs.Table.{telegram}
 use Rattle.subscription.specs.declared.State.{State}
 use Rattle.subscription.specs.declared.State.TheVariants.{NeverReceived, Valid, TimedOut}
-use Rattle.subscription_decisions.specs.declared.Reading.{Reading}
-use Rattle.subscription_decisions.specs.declared.Reading.TheVariants.{Shows, Refused}
+use Rattle.subscription_decisions.specs.declared.View.{View}
 use Rattle.boundary.specs.declared.Outcome.{Outcome}
 use Rattle.boundary.specs.declared.Shown.{Shown}
 use Rattle.boundary.specs.Wire.{granted, refused}
@@ -26,9 +26,9 @@ state_number NeverReceived = 0
 state_number Valid = 1
 state_number TimedOut = 2
 
--- the substitute set whole, or octets of the store from a start on
-abbrev pub of_reading : ℕ → Reading → Shown
-of_reading k (Shows v) =
+-- of slot k: the substitute set whole, or octets of the store from a start on
+abbrev pub of_reading : ℕ → Result View Refusal → Shown
+of_reading k (Ok v) =
     record {
       refusal = 0;
       state = state_number v.state;
@@ -36,8 +36,4 @@ of_reading k (Shows v) =
       start = cond v.substitute 0 (k * slot_octets);
       length = cond v.substitute 0 v.length;
     }
-of_reading k (Refused r) = record { refusal = r; state = 0; substitute = false; start = 0; length = 0 }
-
-abbrev pub is_shown : Reading → Bool
-is_shown (Shows v) = true
-is_shown (Refused r) = false
+of_reading k (Err r) = record { refusal = number r; state = 0; substitute = false; start = 0; length = 0 }

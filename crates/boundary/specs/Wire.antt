@@ -1,19 +1,14 @@
--- The answers of the calls on telegrams, publications and datasets, as structs of numbers: refusal 0 means granted; a refusal has its number and no other content.
-use Rattle.std.specs.Prelude.{ℕ, List, pos, replicate}
+-- The answers of the calls on telegrams, publications and datasets, as structs of numbers: refusal 0 means granted; a
+-- refusal has its number and no other content.
+use Rattle.std.specs.Prelude.{ℕ, List, pos, replicate, Ok, Err, Result}
+use Rattle.refusal.specs.Refusal.{number}
+use Rattle.refusal.specs.declared.Refusal.{Refusal}
 use Rattle.octets.specs.Octets.{part}
 use Rattle.telegram.specs.declared.Common.{Common}
-use Rattle.telegram.specs.declared.Written.{Written}
-use Rattle.telegram.specs.declared.Written.TheVariants as written
 use Rattle.pd.specs.declared.PdHeader.{PdHeader}
-use Rattle.pd.specs.declared.PdTaken.{PdTaken}
-use Rattle.pd.specs.declared.PdTaken.TheVariants as pd
 use Rattle.md.specs.Md.{session_id_of}
 use Rattle.md.specs.declared.MdHeader.{MdHeader}
-use Rattle.md.specs.declared.MdTaken.{MdTaken}
-use Rattle.md.specs.declared.MdTaken.TheVariants as md
 use Rattle.publication.specs.declared.Publication.{Publication}
-use Rattle.dataset.specs.declared.Converted.{Converted}
-use Rattle.dataset.specs.declared.Converted.TheVariants as converted
 use Rattle.boundary.specs.declared.Outcome.{Outcome}
 use Rattle.boundary.specs.declared.PdDatagram.{PdDatagram}
 use Rattle.boundary.specs.declared.MdDatagram.{MdDatagram}
@@ -23,9 +18,19 @@ use Rattle.boundary.specs.declared.Sending.{Sending}
 abbrev pub granted : ℕ → Outcome
 granted v = record { refusal = 0; value = v }
 
--- refused with a number
-abbrev pub refused : ℕ → Outcome
-refused r = record { refusal = r; value = 0 }
+-- refused, with its number
+abbrev pub refused : Refusal → Outcome
+refused r = record { refusal = number r; value = 0 }
+
+-- a slot, a count or a length that a call answers
+abbrev pub of_result : Result ℕ Refusal → Outcome
+of_result (Ok n) = granted n
+of_result (Err r) = refused r
+
+-- 0 where it has nothing to say
+abbrev pub of_done : Result (Unit {0}) Refusal → Outcome
+of_done (Ok v) = granted 0
+of_done (Err r) = refused r
 
 -- ---- telegrams taken apart
 
@@ -44,17 +49,17 @@ no_common =
 abbrev pub no_pd_header : PdHeader
 no_pd_header = record { common = no_common; reserved = 0; reply_com_id = 0; reply_ip_address = 0 }
 
-abbrev pub of_pd_taken : PdTaken → PdDatagram
-of_pd_taken (pd.Header h) = record { refusal = 0; header = h }
-of_pd_taken (pd.Refused r) = record { refusal = r; header = no_pd_header }
+abbrev pub of_pd_taken : Result PdHeader Refusal → PdDatagram
+of_pd_taken (Ok h) = record { refusal = 0; header = h }
+of_pd_taken (Err r) = record { refusal = number r; header = no_pd_header }
 
 abbrev pub no_md_header : MdHeader
 no_md_header = record { common = no_common; reply_status = pos 0; reply_timeout = 0 }
 
-abbrev pub no_md_datagram : ℕ → MdDatagram
+abbrev pub no_md_datagram : Refusal → MdDatagram
 no_md_datagram r =
     record {
-      refusal = r;
+      refusal = number r;
       header = no_md_header;
       session_id = replicate 16 0;
       source_uri = replicate 32 0;
@@ -62,8 +67,8 @@ no_md_datagram r =
     }
 
 -- of datagram d: sessionId 16 at 28, source URI 32 at 48, destination URI 32 at 80
-abbrev pub of_md_taken : List ℕ → MdTaken → MdDatagram
-of_md_taken d (md.Header h) =
+abbrev pub of_md_taken : List ℕ → Result MdHeader Refusal → MdDatagram
+of_md_taken d (Ok h) =
     record {
       refusal = 0;
       header = h;
@@ -71,22 +76,10 @@ of_md_taken d (md.Header h) =
       source_uri = part 32 48 d;
       destination_uri = part 32 80 d;
     }
-of_md_taken d (md.Refused r) = no_md_datagram r
+of_md_taken d (Err r) = no_md_datagram r
 
 -- ---- telegrams written
 
--- how many octets were written
-abbrev pub of_written : Written → Outcome
-of_written (written.Octets n) = granted n
-of_written (written.Refused r) = refused r
-
 -- a sending's answer, and the publication after it
-abbrev pub of_sent : Written → Publication → Sending
-of_sent w p = record { refusal = (of_written w).refusal; length = (of_written w).value; publication = p }
-
--- ---- datasets
-
--- how many octets were converted
-abbrev pub of_converted : Converted → Outcome
-of_converted (converted.Octets n) = granted n
-of_converted (converted.Refused r) = refused r
+abbrev pub of_sent : Result ℕ Refusal → Publication → Sending
+of_sent r p = record { refusal = (of_result r).refusal; length = (of_result r).value; publication = p }

@@ -9,7 +9,8 @@ use borrow.Author.Tests.{le-leb, eq-eqb}
 use lib.ListN.{length}
 use Rattle.octets.specs.Octets.{Octets}
 use Rattle.hexadecimal.specs.Hex.{hex_of}
-use Rattle.capture.specs.declared.FrameLine.{FrameLine}
+use Rattle.std.specs.Prelude.{Option, Some, None}
+use Rattle.capture.specs.declared.Frame.{Frame}
 use Rattle.capture.specs.Frame.{digits_at, is_datagram, is_frame, datagram_of, fields_of, frame_of, line_of}
 use Rattle.hexadecimal.proofs.Back.{number-back, octets-back, digits-hex, octets-hex}
 
@@ -22,7 +23,7 @@ datagram-form d h =
     let l = hex-length d in
     rw (le-leb (length (hex_of d)) 2944 (omega arith), eq-eqb (length (hex_of d) % 2) 0 (omega arith), octets-hex d) refl
 
-same-frame : {a b c n a' b' c' n' : ℕ} → a ≡ a' → b ≡ b' → c ≡ c' → n ≡ n' → FrameLine.Frame (record { sender = a; destination = b; time = c; octets = n }) ≡ FrameLine.Frame (record { sender = a'; destination = b'; time = c'; octets = n' })
+same-frame : {a b c n a' b' c' n' : ℕ} → a ≡ a' → b ≡ b' → c ≡ c' → n ≡ n' → ◌≡◌ {A = Option Frame} (Some (record { sender = a; destination = b; time = c; octets = n })) (Some (record { sender = a'; destination = b'; time = c'; octets = n' }))
 same-frame e f g h = cc
 
 module _ (sender destination time : ℕ) (datagram : List ℕ) (s : sender < 2 ^ 32) (d : destination < 2 ^ 32) (t : time < 2 ^ 64) (o : Octets datagram) (l : length datagram ≤ 1472) where
@@ -36,8 +37,8 @@ module _ (sender destination time : ℕ) (datagram : List ℕ) (s : sender < 2 ^
   pub written-datagram-back : datagram_of (line_of sender destination time datagram) ≡ datagram
   written-datagram-back = octets-back datagram o
 
-  pub written-frame-back : frame_of (line_of sender destination time datagram) ≡ FrameLine.Frame (record { sender = sender; destination = destination; time = time; octets = length datagram })
+  pub written-frame-back : frame_of (line_of sender destination time datagram) ≡ Some (record { sender = sender; destination = destination; time = time; octets = length datagram })
   written-frame-back =
       let e = line_of sender destination time datagram in
-      ap (λ (b : Bool). cond b (FrameLine.Frame (fields_of e)) FrameLine.Bad) line-form
+      ap (λ (b : Bool). cond b (Some (fields_of e)) None) line-form
       ∙ same-frame (number-back 8 sender s) (number-back 8 destination d) (number-back 16 time t) (ap length written-datagram-back)

@@ -12,7 +12,7 @@ use lib.ListN.{length, take, drop, length-drop, get_or-eq_default}
 use lib.Seq.{take_all}
 use Rattle.hexadecimal.specs.Hex.{digit, is_hex, number}
 use Rattle.capture.specs.declared.Frame.{Frame}
-use Rattle.capture.specs.declared.FrameLine.{FrameLine}
+use Rattle.std.specs.Prelude.{Some, None}
 use Rattle.capture.specs.Frame.{space_at, digits_at, has_pair, is_head, is_datagram, is_frame, datagram_of, fields_of, frame_of}
 use Rattle.hexadecimal.proofs.Digits.{and_left, and_right, digit-more, octets-length}
 
@@ -96,15 +96,30 @@ whole s e =
     }
 
 -- a frame's datagram has at most 1,472 octets
-pub frame-room : (s : List ℕ) (f : Frame) → FrameLine.Frame f ≡ frame_of s → f.octets ≤ 1472
+pub frame-room : (s : List ℕ) (f : Frame) → Some f ≡ frame_of s → f.octets ≤ 1472
 frame-room s f e = go (is_frame s) refl
   where
     go : (b : Bool) → is_frame s ≡ b → f.octets ≤ 1472
     go true h =
-        let r : FrameLine.Frame f ≡ FrameLine.Frame (fields_of s) = e ∙ rw h refl in
+        let r : Some f ≡ Some (fields_of s) = e ∙ rw h refl in
         let n : f.octets ≡ length (datagram_of s) = cc in
         omega (arith, octets-length (drop 35 s), (whole s h).most)
     go false h =
-        let r : FrameLine.Frame f ≡ FrameLine.Bad = e ∙ rw h refl in
+        let r : Some f ≡ None = e ∙ rw h refl in
         let z : ◌≡◌ {A = ℕ} 0 1 = cc in
         omega arith
+
+-- the code's order of the tests of a frame is that of the definition
+pub front : (s : List ℕ) → (has_pair s && (space_at 17 s && (digits_at 16 18 s && space_at 34 s))) && is_datagram (drop 35 s) ≡ is_frame s
+front s = go (has_pair s) (space_at 17 s) (digits_at 16 18 s) (space_at 34 s) (is_datagram (drop 35 s))
+  where
+    go : (a b c d e : Bool) → (a && (b && (c && d))) && e ≡ (a && (b && (c && (d && e))))
+    go false b c d e = refl
+    go true false c d e = refl
+    go true true false d e = refl
+    go true true true d e = refl
+
+pub ruleset form = (front, rest, short)
+
+-- what reading a frame takes from its form
+pub ruleset frame_parts = (whole, rest, octets-length, length-drop)

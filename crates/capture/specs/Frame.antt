@@ -1,12 +1,9 @@
 -- The lines of a capture: a head with the local counters, then one PD frame a line. Capitals only; LF is not part of a line.
-use Rattle.std.specs.Prelude.{◌≡◌, ℕ, ◌%◌, List, ◌∷◌, ◌++◌, Bool, cond, ◌&&◌, eqb, leb, length, get_or, drop}
+use Rattle.std.specs.Prelude.{◌≡◌, ℕ, ◌%◌, List, ◌∷◌, ◌++◌, Bool, cond, ◌&&◌, eqb, leb, length, get_or, drop, Option, Some, None}
 use Rattle.octets.specs.Octets.{part, put}
 use Rattle.hexadecimal.specs.Hex.{is_hex, number, octets_of, digits_of, hex_of}
 use Rattle.capture.specs.declared.Frame.{Frame}
-use Rattle.capture.specs.declared.HeadLine.{HeadLine}
-use Rattle.capture.specs.declared.HeadLine.TheVariants as head
-use Rattle.capture.specs.declared.FrameLine.{FrameLine}
-use Rattle.capture.specs.declared.FrameLine.TheVariants as frame
+use Rattle.topography.specs.declared.TopoCounts.{TopoCounts}
 
 -- a space at a place of a line; a shorter line has none there
 abbrev pub space_at : ℕ → List ℕ → Bool
@@ -27,10 +24,10 @@ has_pair s = digits_at 8 0 s && (space_at 8 s && digits_at 8 9 s)
 abbrev pub is_head : List ℕ → Bool
 is_head s = eqb (length s) 17 && has_pair s
 
--- line 1: local etbTopoCnt and opTrnTopoCnt, 8 digits each
-abbrev pub head_of : List ℕ → HeadLine
+-- line 1: local etbTopoCnt and opTrnTopoCnt, 8 digits each; nothing where it has another form
+abbrev pub head_of : List ℕ → Option TopoCounts
 head_of s =
-    cond (is_head s) (head.Counters (record { etb_topo_cnt = number_at 8 0 s; op_trn_topo_cnt = number_at 8 9 s })) head.Bad
+    cond (is_head s) (Some (record { etb_topo_cnt = number_at 8 0 s; op_trn_topo_cnt = number_at 8 9 s })) None
 
 -- datagram 0 to 2,944 digits, even
 abbrev pub is_datagram : List ℕ → Bool
@@ -47,16 +44,16 @@ datagram_of s = octets_of (drop 35 s)
 abbrev pub fields_of : List ℕ → Frame
 fields_of s = record { sender = number_at 8 0 s; destination = number_at 8 9 s; time = number_at 16 18 s; octets = length (datagram_of s) }
 
--- a line of the form is a frame, with the number of its datagram's octets; any other line is bad
-abbrev pub frame_of : List ℕ → FrameLine
-frame_of s = cond (is_frame s) (frame.Frame (fields_of s)) frame.Bad
+-- a line of the form is a frame, with the number of its datagram's octets; any other line is none
+abbrev pub frame_of : List ℕ → Option Frame
+frame_of s = cond (is_frame s) (Some (fields_of s)) None
 
 -- a buffer after a line was read: a frame's datagram stands in its first octets; a bad line leaves it as it was
 abbrev pub buffer_after : List ℕ → List ℕ → List ℕ
 buffer_after s before = cond (is_frame s) (put 0 (datagram_of s) before) before
 
 -- what reading a line answers, and the buffer after it
-pub record Reads (s before : List ℕ) (r : FrameLine) (after : List ℕ) : Type 0 where
+pub record Reads (s before : List ℕ) (r : Option Frame) (after : List ℕ) : Type 0 where
   pub answer : r ≡ frame_of s
   pub buffer : after ≡ buffer_after s before
 

@@ -1,103 +1,32 @@
--- Descriptions in a run: the elements one by one, the description at a place, and the look-up from one to the next.
+-- Descriptions in a run: the one at its head, and the look-up from one to the next.
 -- Assumes nothing.
-use mathlib.Core.Path.{◌≡◌, refl, sym, ap, ap₂, ◌∙◌}
-use mathlib.Core.List.{List, [], ◌∷◌}
-use mathlib.Core.Bool.{Bool, true, false, cond, ◌||◌, or-true, or-false, true≢false}
-use Prim.Native.Nat.{ℕ, zero, suc, ◌+◌, ◌-◌, ◌*◌, ◌≤◌, ◌<◌}
-use native.Mathlib.Nat.{add-zero}
-use native.Mathlib.Numerals.{add-one}
-use native.Mathlib.Omega.{arith}
-use borrow.Author.Tests.{eq-eqb, ne_eqb, lt-ltb, le-ltb, le-leb, lt-leb, eqb-true, eqb-false, ltb-false}
-use lib.Dec.{eqb, ltb, leb}
-use lib.ListN.{length, get_or, drop, length-drop, drop_of_length-le}
-use lib.Seq.{drop-cons, drop-drop, get_or-drop}
-use Rattle.refusal.specs.Refusal.{not_described, description}
-use Rattle.dataset.specs.Descriptions.{elements_of, typeless, malformed, Found, described, fault, scan, look_up}
-use Rattle.dataset.specs.Steps.{element, elements_at, LooksUp}
-use Rattle.dataset.specs.declared.Place.TheVariants.{Elements, Fault}
+use Rattle.std.proofs.Common.{◌≡◌, refl, sym, ap, ◌∙◌, ℕ, zero, suc, ◌-◌, ◌*◌, ◌/◌, ◌≤◌, ◌<◌, arith, List, [], ◌∷◌, Bool, true, false, cond, ◌||◌, eqb, ltb, leb, length, take, drop, map, get_or}
+use Rattle.std.proofs.lemmas.Bool.{true≢false}
+use mathlib.Core.Bool.{or-false}
+use Rattle.std.specs.Prelude.{Some, None, Ok, Err}
+use Rattle.std.specs.List.{list_any, IsSplitAt}
+use Rattle.std.specs.Simd.{first_chunks}
+use borrow.Author.Tests.{eqb-false, ltb-false, le-ltb}
+use lib.ListN.{length-drop}
+use Rattle.std.proofs.lemmas.List.{take_all}
+use Rattle.refusal.specs.declared.Refusal.TheVariants as refusal
+use Rattle.dataset.specs.Descriptions.{element_of, elements_of, typeless, malformed, Description, headed, scan}
+use Rattle.dataset.specs.Steps.{described_by}
 
--- the two numbers at a place, and the rest
-pub two_at : (run : List ℕ) (at : ℕ) → at + 2 ≤ length run → drop at run ≡ get_or run at 0 ∷ get_or run (at + 1) 0 ∷ drop (at + 2) run
-two_at run at h =
-    let two : at + 2 ≡ suc (at + 1) = omega arith in
-    let a : drop at run ≡ get_or run at 0 ∷ drop (at + 1) run = rw add-one (drop-cons run at 0 (omega arith)) in
-    let b : drop (at + 1) run ≡ get_or run (at + 1) 0 ∷ drop (at + 2) run = rw two (drop-cons run (at + 1) 0 (omega arith)) in
-    a ∙ ap (◌∷◌ (get_or run at 0)) b
+-- the elements of a description as the run has them, two numbers each
+pub paired : (n : ℕ) (run : List ℕ) → 2 * n ≤ length run
+    → map element_of (first_chunks 2 n (take (2 * n) run)) ≡ elements_of n run
+paired zero run h = refl
+paired (suc n) [] h = absurd (omega arith)
+paired (suc n) (t ∷ []) h = absurd (omega arith)
+paired (suc n) (t ∷ c ∷ run) h =
+    let e : 2 * suc n ≡ suc (suc (2 * n)) = omega arith in
+    rw e (ap (λ es. record { type = t; count = c } ∷ es) (paired n run (omega arith)))
 
--- element i of n, and those behind it
-pub elements-more : (run : List ℕ) (first n i : ℕ) → i < n → first + 2 * n ≤ length run
-    → elements_of (n - i) (drop (first + 2 * i) run) ≡ element (get_or run (first + 2 * i) 0) (get_or run (first + 2 * i + 1) 0) ∷ elements_of (n - (i + 1)) (drop (first + 2 * (i + 1)) run)
-elements-more run first n i h k =
-    let next : n - i ≡ suc (n - (i + 1)) = omega arith in
-    let place : first + 2 * i + 2 ≡ first + 2 * (i + 1) = omega arith in
-    rw (next, two_at run (first + 2 * i) (omega arith), place)
-
--- a type 0 among the elements from i on
-pub typeless-here : (run : List ℕ) (first n i : ℕ) → i < n → first + 2 * n ≤ length run → get_or run (first + 2 * i) 0 ≡ 0
-    → typeless (elements_of (n - i) (drop (first + 2 * i) run)) ≡ true
-typeless-here run first n i h k e = rw (elements-more run first n i h k, e)
-
-pub typeless-more : (run : List ℕ) (first n i : ℕ) → i < n → first + 2 * n ≤ length run → (get_or run (first + 2 * i) 0 ≡ 0 → ⊥)
-    → typeless (elements_of (n - i) (drop (first + 2 * i) run)) ≡ typeless (elements_of (n - (i + 1)) (drop (first + 2 * (i + 1)) run))
-typeless-more run first n i h k e = rw (elements-more run first n i h k, ne_eqb (get_or run (first + 2 * i) 0) 0 e)
-
-pub typeless-end : (l : List ℕ) (n i : ℕ) → n ≤ i → typeless (elements_of (n - i) l) ≡ false
-typeless-end l n i h = let e : n - i ≡ 0 = omega arith in rw e
-
--- a lone number
-pub alone : (run : List ℕ) (at : ℕ) → at + 1 ≡ length run → elements_at (drop at run) ≡ 0
-alone run at e =
-    let a : drop at run ≡ get_or run at 0 ∷ drop (suc at) run = drop-cons run at 0 (omega arith) in
-    let b : drop (suc at) run ≡ [] = let l : length run ≤ suc at = omega arith in drop_of_length-le run l in
-    rw (a, b)
-
--- a description at a place
-module _ (run : List ℕ) (at : ℕ) (h : at + 2 ≤ length run) where
-  abbrev id_at : ℕ
-  id_at = get_or run at 0
-
-  abbrev number_at : ℕ
-  number_at = get_or run (at + 1) 0
-
-  pub low-id : get_or run at 0 ≤ 16 → elements_at (drop at run) ≡ 0
-  low-id e = rw (two_at run at h, le-leb id_at 16 e)
-
-  pub cut : length run - at - 2 < 2 * get_or run (at + 1) 0 → elements_at (drop at run) ≡ 0
-  cut e =
-      let s : ltb (length (drop (at + 2) run)) (2 * number_at) ≡ true = lt-ltb (length (drop (at + 2) run)) (2 * number_at) (omega (arith, length-drop (at + 2) run)) in
-      rw (two_at run at h, s, or-true)
-
-  pub no-type-in : typeless (elements_of (get_or run (at + 1) 0) (drop (at + 2) run)) ≡ true → elements_at (drop at run) ≡ 0
-  no-type-in e = rw (two_at run at h, e, or-true)
-
-  none_or : (n : ℕ) → cond (eqb n 0) 0 n ≡ n
-  none_or n = go (eqb n 0) refl
-    where
-      go : (b : Bool) → eqb n 0 ≡ b → cond b 0 n ≡ n
-      go true e = sym (eqb-true n 0 e)
-      go false e = refl
-
-  pub sound : 16 < get_or run at 0 → 2 * get_or run (at + 1) 0 ≤ length run - at - 2 → typeless (elements_of (get_or run (at + 1) 0) (drop (at + 2) run)) ≡ false → elements_at (drop at run) ≡ get_or run (at + 1) 0
-  sound i l e =
-      let s : ltb (length (drop (at + 2) run)) (2 * number_at) ≡ false = le-ltb (length (drop (at + 2) run)) (2 * number_at) (omega (arith, length-drop (at + 2) run)) in
-      rw (two_at run at h, lt-leb id_at 16 i, s, e, or-false, or-false) (none_or number_at)
-
--- more descriptions than numbers need not be counted
-scan-same : (m k id : ℕ) (run : List ℕ) → length run ≤ m → length run ≤ k → scan m id run ≡ scan k id run
-scan-same zero zero id run h j = refl
-scan-same zero (suc k) id [] h j = refl
-scan-same zero (suc k) id (x ∷ run) h j = absurd (omega arith)
-scan-same (suc m) zero id [] h j = refl
-scan-same (suc m) zero id (x ∷ run) h j = absurd (omega arith)
-scan-same (suc m) (suc k) id [] h j = refl
-scan-same (suc m) (suc k) id (x ∷ []) h j = refl
-scan-same (suc m) (suc k) id (x ∷ n ∷ run) h j =
-    rw (scan-same m k id (drop (2 * n) run) (omega (arith, length-drop (2 * n) run)) (omega (arith, length-drop (2 * n) run)))
-
--- the end of the run
-scan-end : (m id : ℕ) → scan m id [] ≡ fault not_described
-scan-end zero id = refl
-scan-end (suc m) id = refl
+-- a type 0 among them
+pub typeless-any : (es : List (List ℕ)) → typeless (map element_of es) ≡ list_any (λ e. eqb (get_or e 0 0) 0) es
+typeless-any [] = refl
+typeless-any (e ∷ es) = ap (λ b. eqb (get_or e 0 0) 0 || b) (typeless-any es)
 
 -- a description that is not malformed
 pub record Sound (n : ℕ) (run : List ℕ) : Type 0 where
@@ -116,74 +45,90 @@ is-sound x n run e =
     let k = or_parts (leb x 16) (eqb n 0) (ltb (length run) (2 * n)) (typeless (elements_of n run)) e in
     record { some = eqb-false n 0 k.0; long = ltb-false (length run) (2 * n) k.1; typed = k.2 }
 
+-- more descriptions than numbers need not be counted
+scan-same : (m k id : ℕ) (run : List ℕ) → length run ≤ m → length run ≤ k → scan m id run ≡ scan k id run
+scan-same zero zero id run h j = refl
+scan-same zero (suc k) id [] h j = refl
+scan-same zero (suc k) id (x ∷ run) h j = absurd (omega arith)
+scan-same (suc m) zero id [] h j = refl
+scan-same (suc m) zero id (x ∷ run) h j = absurd (omega arith)
+scan-same (suc m) (suc k) id [] h j = refl
+scan-same (suc m) (suc k) id (x ∷ []) h j = refl
+scan-same (suc m) (suc k) id (x ∷ n ∷ run) h j =
+    rw (scan-same m k id (drop (2 * n) run) (omega (arith, length-drop (2 * n) run))
+    (omega (arith, length-drop (2 * n) run)))
+
+-- the end of the run
+pub scan-end : (m id : ℕ) (run : List ℕ) → length run ≡ 0 → scan m id run ≡ Err refusal.NotDescribed
+scan-end zero id run h = refl
+scan-end (suc m) id [] h = refl
+scan-end (suc m) id (x ∷ run) h = absurd (omega arith)
+
 -- a malformed description ends the look-up
-module _ (m id : ℕ) where
-  scan-malformed : (l : List ℕ) → 1 ≤ length l → elements_at l ≡ 0 → scan (suc m) id l ≡ fault description
-  scan-malformed [] h e = absurd (omega arith)
-  scan-malformed (x ∷ []) h e = refl
-  scan-malformed (x ∷ n ∷ run) h e = go (malformed x n run) _ refl e
-    where
-      go : (b : Bool) (rest : Found) → malformed x n run ≡ b → cond b 0 n ≡ 0 → cond b (fault description) rest ≡ fault description
-      go true rest f z = refl
-      go false rest f z = absurd ((is-sound x n run f).some z)
+pub scan-malformed : (m id : ℕ) (run : List ℕ) → (length run ≡ 0 → ⊥) → length run ≤ m → headed run ≡ None
+    → scan m id run ≡ Err refusal.Description
+scan-malformed m id [] h k e = absurd (h refl)
+scan-malformed zero id (x ∷ run) h k e = absurd (omega arith)
+scan-malformed (suc m) id (x ∷ []) h k e = refl
+scan-malformed (suc m) id (x ∷ n ∷ run) h k e = go (malformed x n run) e
+  where
+    here : Description
+    here = record { id = x; elements = elements_of n run; rest = drop (2 * n) run }
 
-  -- a sound one is the one sought, or is passed
-  pub record Passes (l : List ℕ) (n : ℕ) : Type 0 where
-    pub long : 2 + 2 * n ≤ length l
-    pub on : scan (suc m) id l ≡ cond (eqb (get_or l 0 0) id) (described (elements_of n (drop 2 l))) (scan m id (drop (2 * n) (drop 2 l)))
+    go : (b : Bool) → cond b None (Some here) ≡ None
+        → cond b (Err refusal.Description) (cond (eqb x id) (Ok (elements_of n run)) (scan m id (drop (2 * n) run)))
+        ≡ Err refusal.Description
+    go true e = refl
+    go false e = let z : ◌≡◌ {A = ℕ} 0 1 = cc in absurd (omega arith)
 
-  passes : (l : List ℕ) (n : ℕ) → n ≡ elements_at l → (n ≡ 0 → ⊥) → Passes l n
-  passes [] n e h = absurd (h e)
-  passes (x ∷ []) n e h = absurd (h e)
-  passes (x ∷ k ∷ run) n e h = go (malformed x k run) refl e
-    where
-      go : (b : Bool) → malformed x k run ≡ b → n ≡ cond b 0 k → Passes (x ∷ k ∷ run) n
-      go true f z = absurd (h z)
-      go false f z = record { long = omega (arith, (is-sound x k run f).long); on = rw (f, z) }
+-- a sound one is the one sought, or is passed
+pub record Passes (m id : ℕ) (run : List ℕ) (d : Description) : Type 0 where
+  pub shorter : length d.rest < length run
+  pub on : scan m id run ≡ cond (eqb d.id id) (Ok d.elements) (scan m id d.rest)
 
--- the look-up at a place of the run
-look-malformed : (f id : ℕ) (run : List ℕ) (at : ℕ) → at < length run → length run ≤ f → 0 ≡ elements_at (drop at run) → scan f id (drop at run) ≡ fault description
-look-malformed zero id run at h k e = absurd (omega arith)
-look-malformed (suc m) id run at h k e = scan-malformed m id (drop at run) (omega (arith, length-drop at run)) (sym e)
+pub passes : (m id : ℕ) (run : List ℕ) (d : Description) → length run ≤ m → Some d ≡ headed run → Passes m id run d
+passes m id [] d k e = let z : ◌≡◌ {A = ℕ} 0 1 = cc in absurd (omega arith)
+passes m id (x ∷ []) d k e = let z : ◌≡◌ {A = ℕ} 0 1 = cc in absurd (omega arith)
+passes zero id (x ∷ n ∷ run) d k e = absurd (omega arith)
+passes (suc m) id (x ∷ n ∷ run) d k e = go (malformed x n run) refl e
+  where
+    here : Description
+    here = record { id = x; elements = elements_of n run; rest = drop (2 * n) run }
 
-module _ (id : ℕ) (run : List ℕ) (at n : ℕ) (e : n ≡ elements_at (drop at run)) (h : n ≡ 0 → ⊥) where
-  pub look-long : at + 2 + 2 * n ≤ length run
-  look-long = let p = passes 0 id (drop at run) n e h in omega (arith, p.long, length-drop at run)
+    go : (b : Bool) → malformed x n run ≡ b → Some d ≡ cond b None (Some here) → Passes (suc m) id (x ∷ n ∷ run) d
+    go true f e = let z : ◌≡◌ {A = ℕ} 0 1 = cc in absurd (omega arith)
+    go false f e =
+        let same : d ≡ here = cc in
+        rw same (record {
+          shorter = omega (arith, length-drop (2 * n) run);
+          on =
+              rw f
+              (ap (cond (eqb x id) (Ok (elements_of n run)))
+              (scan-same m (suc m) id (drop (2 * n) run) (omega (arith, length-drop (2 * n) run))
+              (omega (arith, length-drop (2 * n) run))));
+        })
 
-  look-on : (f : ℕ) → length run ≤ f → scan f id (drop at run) ≡ cond (eqb (get_or run at 0) id) (described (elements_of n (drop (at + 2) run))) (scan f id (drop (at + 2 + 2 * n) run))
-  look-on zero k = absurd (omega (arith, look-long))
-  look-on (suc m) k =
-      let p = passes m id (drop at run) n e h in
-      let first : get_or (drop at run) 0 0 ≡ get_or run at 0 = get_or-drop at run 0 0 ∙ ap (λ (j : ℕ). get_or run j 0) (add-zero at) in
-      let rest : drop (2 * n) (drop 2 (drop at run)) ≡ drop (at + 2 + 2 * n) run = ap (drop (2 * n)) (drop-drop 2 at run) ∙ drop-drop (2 * n) (at + 2) run in
-      p.on
-      ∙ ap₂ (λ (x : ℕ) (l : List ℕ). cond (eqb x id) (described (elements_of n l)) (scan m id (drop (2 * n) (drop 2 (drop at run))))) first (drop-drop 2 at run)
-      ∙ ap (λ (l : List ℕ). cond (eqb (get_or run at 0) id) (described (elements_of n (drop (at + 2) run))) (scan m id l)) rest
-      ∙ ap (cond (eqb (get_or run at 0) id) (described (elements_of n (drop (at + 2) run))))
-      (scan-same m (suc m) id (drop (at + 2 + 2 * n) run) (omega (arith, look-long, length-drop (at + 2 + 2 * n) run)) (omega (arith, look-long, length-drop (at + 2 + 2 * n) run)))
-
-  -- the description of another id is passed
-  pub look-passed : (get_or run at 0 ≡ id → ⊥) → scan (length run) id (drop at run) ≡ scan (length run) id (drop (at + 2 + 2 * n) run)
-  look-passed k = look-on (length run) (omega arith) ∙ rw (ne_eqb (get_or run at 0) id k)
-
-  -- the first description of the id
-  pub look-found : look_up id run ≡ scan (length run) id (drop at run) → get_or run at 0 ≡ id → LooksUp id run (Elements (at + 2) n)
-  look-found f k =
-      record {
-        finds = sym (f ∙ look-on (length run) (omega arith) ∙ rw (eq-eqb (get_or run at 0) id k));
-        within = (omega arith, look-long);
-      }
-
-module _ (id : ℕ) (run : List ℕ) where
-  pub look-long-run : 4096 < length run → LooksUp id run (Fault 23)
-  look-long-run h = record { finds = rw (lt-ltb 4096 (length run) h); within = tt }
-
-  pub look-start : length run ≤ 4096 → look_up id run ≡ scan (length run) id run
-  look-start h = rw (le-ltb 4096 (length run) h)
-
-  module _ (at : ℕ) (f : look_up id run ≡ scan (length run) id (drop at run)) where
-    pub look-bad : at < length run → 0 ≡ elements_at (drop at run) → LooksUp id run (Fault 23)
-    look-bad h e = record { finds = sym (f ∙ look-malformed (length run) id run at h (omega arith) e); within = tt }
-
-    pub look-end : length run ≤ at → LooksUp id run (Fault 21)
-    look-end h = record { finds = sym (f ∙ ap (scan (length run) id) (drop_of_length-le run h) ∙ scan-end (length run) id); within = tt }
+-- the description at the head of a run as the code reads it: its tests are those of `malformed`
+pub headed-is : (run front rest : List ℕ) (es : List (List ℕ)) → 2 ≤ length run
+    → IsSplitAt (take (length run - 2) (drop 2 run)) (2 * get_or run 1 0) front rest
+    → es ≡ first_chunks 2 (length front / 2) front → length es ≡ length front / 2
+    → headed run ≡ cond (leb (get_or run 0 0) 16 || eqb (length es) 0 || list_any (λ e. eqb (get_or e 0 0) 0) es)
+    None (Some (described_by (get_or run 0 0) es rest))
+headed-is [] front rest es two split pairs many = absurd (omega arith)
+headed-is (x ∷ []) front rest es two split pairs many = absurd (omega arith)
+headed-is (x ∷ n ∷ run) front rest es two split pairs many =
+    let all : take (length (x ∷ n ∷ run) - 2) run ≡ run = take_all _ run (omega arith) in
+    let long : 2 * n ≤ length run = omega (arith, split.0, ap length all) in
+    let half : length front / 2 ≡ n = omega (arith, split.3) in
+    let front-is : front ≡ take (2 * n) run = split.1 ∙ ap (take (2 * n)) all in
+    let rest-is : drop (2 * n) run ≡ rest = sym (split.2 ∙ ap (drop (2 * n)) all) in
+    let es-is : es ≡ first_chunks 2 n (take (2 * n) run) =
+    pairs ∙ ap (λ m. first_chunks 2 m front) half ∙ ap (first_chunks 2 n) front-is in
+    let elements : elements_of n run ≡ map element_of es = sym (ap (map element_of) es-is ∙ paired n run long) in
+    let number : n ≡ length es = sym (many ∙ half) in
+    let typed : typeless (elements_of n run) ≡ list_any (λ e. eqb (get_or e 0 0) 0) es =
+    ap typeless elements ∙ typeless-any es in
+    let fits : ltb (length run) (2 * n) ≡ false = le-ltb (length run) (2 * n) long in
+    let one : malformed x n run ≡ (leb x 16 || eqb (length es) 0 || list_any (λ e. eqb (get_or e 0 0) 0) es) =
+    rw (fits, typed, or-false, number) refl in
+    rw (one, elements, rest-is) refl

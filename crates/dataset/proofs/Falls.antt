@@ -1,5 +1,6 @@
 -- Each dataset that is walked takes at least one octet, so that an array of them ends where the data end, whatever its count.
 -- Assumes nothing.
+use Rattle.std.specs.Prelude.{Option, None, Result, Ok, Err}
 use mathlib.Core.Path.{◌≡◌, refl, sym, ◌∙◌, subst}
 use mathlib.Core.List.{List, [], ◌∷◌, reverse}
 use mathlib.Core.Bool.{Bool, true, false, cond, true≢false}
@@ -8,10 +9,11 @@ use native.Mathlib.Omega.{arith}
 use borrow.Author.Tests.{eq-eqb, ltb-true, ltb-false}
 use lib.Dec.{eqb, ltb}
 use lib.ListN.{length, get_or, take, drop, length-drop}
-use Rattle.refusal.specs.Refusal.{description, data_length}
+use Rattle.refusal.specs.declared.Refusal.{Refusal}
+use Rattle.refusal.specs.declared.Refusal.TheVariants as refusal
 use Rattle.scalars.specs.Scalars.{scalar_types, parts_of}
-use Rattle.dataset.specs.Descriptions.{Element, elements_of, malformed, Found, described, fault, scan, look_up}
-use Rattle.dataset.specs.Walk.{Walked, stopped, walked, behind, then, times, turned, Count, none, count_behind, with_items, items_of, walk_of, through_found, nested_of}
+use Rattle.dataset.specs.Descriptions.{Element, elements_of, malformed, scan, look_up}
+use Rattle.dataset.specs.Walk.{Walked, stopped, walked, behind, then, times, turned, count_behind, with_items, items_of, walk_of, through_found, nested_of}
 use Rattle.dataset.specs.declared.Form.{Form}
 use Rattle.dataset.proofs.Walks.{Takes, takes-here, takes_part, takes-more, of-turned, of-times, of-walk, of-nested}
 use Rattle.dataset.proofs.Descriptions.{Sound, is-sound}
@@ -51,20 +53,20 @@ falls-turned : (ks d : List ℕ) → Parts ks → Falls d (turned ks d)
 falls-turned [] d h = absurd h
 falls-turned (k ∷ ks) d h = go (ltb (length d) k) refl
   where
-    go : (b : Bool) → ltb (length d) k ≡ b → Falls d (cond b (stopped data_length) (then (walked (drop k d) (reverse (take k d))) (turned ks)))
+    go : (b : Bool) → ltb (length d) k ≡ b → Falls d (cond b (stopped refusal.DataLength) (then (walked (drop k d) (reverse (take k d))) (turned ks)))
     go true e = tt
     go false e =
         let fewer : length (drop k d) < length d = omega (arith, h, ltb-false (length d) k e, length-drop k d) in
-        falls-then d (walked (drop k d) (reverse (take k d))) (turned ks) fewer (of-turned Takes (λ d r _. tt) takes-here takes_part takes-more ks)
+        falls-then d (walked (drop k d) (reverse (take k d))) (turned ks) fewer (of-turned Takes (λ d r. tt) takes-here takes_part takes-more ks)
 
 -- a description has a first element, of a type that is not 0
 abbrev First : List Element → Type 0
 First [] = ⊥
 First (e ∷ es) = e.type ≡ 0 → ⊥
 
-abbrev Opens : Found → Type 0
-Opens (described es) = First es
-Opens (fault r) = Unit {0}
+abbrev Opens : Result (List Element) Refusal → Type 0
+Opens (Ok es) = First es
+Opens (Err r) = Unit {0}
 
 first-of : (n : ℕ) (run : List ℕ) → Sound n run → First (elements_of n run)
 first-of zero run h = absurd (h.some refl)
@@ -78,7 +80,7 @@ scan-opens (suc m) id [] = tt
 scan-opens (suc m) id (x ∷ []) = tt
 scan-opens (suc m) id (x ∷ n ∷ run) = go (malformed x n run) (eqb x id) refl (scan-opens m id (drop (2 * n) run))
   where
-    go : (b c : Bool) → malformed x n run ≡ b → Opens (scan m id (drop (2 * n) run)) → Opens (cond b (fault description) (cond c (described (elements_of n run)) (scan m id (drop (2 * n) run))))
+    go : (b c : Bool) → malformed x n run ≡ b → Opens (scan m id (drop (2 * n) run)) → Opens (cond b (Err refusal.Description) (cond c (Ok (elements_of n run)) (scan m id (drop (2 * n) run))))
     go true c e h = tt
     go false false e h = h
     go false true e h = first-of n run (is-sound x n run e)
@@ -86,7 +88,7 @@ scan-opens (suc m) id (x ∷ n ∷ run) = go (malformed x n run) (eqb x id) refl
 look-up-opens : (id : ℕ) (run : List ℕ) → Opens (look_up id run)
 look-up-opens id run = go (ltb 4096 (length run))
   where
-    go : (b : Bool) → Opens (cond b (fault description) (scan (length run) id run))
+    go : (b : Bool) → Opens (cond b (Err refusal.Description) (scan (length run) id run))
     go true = tt
     go false = scan-opens (length run) id run
 
@@ -95,10 +97,10 @@ module _ (levels : ℕ) (form : Form) (run : List ℕ) where
   nested = nested_of levels form run
 
   takes-nested : (t n : ℕ) (l : List ℕ) → Takes l (nested t n l)
-  takes-nested = of-nested Takes (λ d r _. tt) takes-here takes_part takes-more levels form run
+  takes-nested = of-nested Takes (λ d r. tt) takes-here takes_part takes-more levels form run
 
-  takes-walk : (es : List Element) (c : Count) (l : List ℕ) → Takes l (walk_of form nested es c l)
-  takes-walk = of-walk Takes (λ d r _. tt) takes-here takes_part takes-more nested takes-nested form
+  takes-walk : (es : List Element) (c : Option ℕ) (l : List ℕ) → Takes l (walk_of form nested es c l)
+  takes-walk = of-walk Takes (λ d r. tt) takes-here takes_part takes-more nested takes-nested form
 
   module _ (h : (t n : ℕ) (l : List ℕ) → Falls l (nested t (suc n) l)) where
     falls-items : (t n : ℕ) (d : List ℕ) → (t ≡ 0 → ⊥) → Falls d (items_of nested t (suc n) d)
@@ -108,13 +110,13 @@ module _ (levels : ℕ) (form : Form) (run : List ℕ) where
         go false e = h t n d
         go true e =
             falls-then d (turned (parts_of t) d) (times n (turned (parts_of t))) (falls-turned (parts_of t) d (parts-of t k (ltb-true t 17 e)))
-            (of-times Takes (λ d r _. tt) takes-here takes_part takes-more n (turned (parts_of t)) (of-turned Takes (λ d r _. tt) takes-here takes_part takes-more (parts_of t)))
+            (of-times Takes (λ d r. tt) takes-here takes_part takes-more n (turned (parts_of t)) (of-turned Takes (λ d r. tt) takes-here takes_part takes-more (parts_of t)))
 
-    falls-walk : (es : List Element) (d : List ℕ) → First es → Falls d (walk_of form nested es none d)
+    falls-walk : (es : List Element) (d : List ℕ) → First es → Falls d (walk_of form nested es None d)
     falls-walk [] d k = absurd k
     falls-walk (e ∷ es) d k = go e.count
       where
-        go : (m : ℕ) → Falls d (with_items none m (λ n. then (items_of nested e.type n d) (walk_of form nested es (count_behind form e d))))
+        go : (m : ℕ) → Falls d (with_items None m (λ n. then (items_of nested e.type n d) (walk_of form nested es (count_behind form e d))))
         go zero = tt
         go (suc n) = falls-then d (items_of nested e.type (suc n) d) (walk_of form nested es (count_behind form e d)) (falls-items e.type n d k) (takes-walk es (count_behind form e d))
 
@@ -122,13 +124,13 @@ falls-nested : (levels : ℕ) (form : Form) (run : List ℕ) (id n : ℕ) (d : L
 falls-nested zero form run id n d = tt
 falls-nested (suc levels) form run id n d = go (look_up id run) (look-up-opens id run) (falls-nested levels form run)
   where
-    go : (w : Found) → Opens w → ((t m : ℕ) (l : List ℕ) → Falls l (nested_of levels form run t (suc m) l))
-        → Falls d (through_found w (λ es. times (suc n) (walk_of form (nested_of levels form run) es none) d))
-    go (fault r) o h = tt
-    go (described es) o h =
-        falls-then d (walk_of form (nested_of levels form run) es none d) (times n (walk_of form (nested_of levels form run) es none)) (falls-walk levels form run h es d o)
-        (of-times Takes (λ d r _. tt) takes-here takes_part takes-more n (walk_of form (nested_of levels form run) es none) (takes-walk levels form run es none))
+    go : (w : Result (List Element) Refusal) → Opens w → ((t m : ℕ) (l : List ℕ) → Falls l (nested_of levels form run t (suc m) l))
+        → Falls d (through_found w (λ es. times (suc n) (walk_of form (nested_of levels form run) es None) d))
+    go (Err r) o h = tt
+    go (Ok es) o h =
+        falls-then d (walk_of form (nested_of levels form run) es None d) (times n (walk_of form (nested_of levels form run) es None)) (falls-walk levels form run h es d o)
+        (of-times Takes (λ d r. tt) takes-here takes_part takes-more n (walk_of form (nested_of levels form run) es None) (takes-walk levels form run es None))
 
 -- a dataset of a description that was found leaves fewer octets than there were
-pub dataset-falls : (levels : ℕ) (form : Form) (run : List ℕ) (id : ℕ) (es : List Element) → look_up id run ≡ described es → (d : List ℕ) → Falls d (walk_of form (nested_of levels form run) es none d)
+pub dataset-falls : (levels : ℕ) (form : Form) (run : List ℕ) (id : ℕ) (es : List Element) → look_up id run ≡ Ok es → (d : List ℕ) → Falls d (walk_of form (nested_of levels form run) es None d)
 dataset-falls levels form run id es e d = falls-walk levels form run (falls-nested levels form run) es d (subst Opens e (look-up-opens id run))

@@ -2,8 +2,7 @@ pub mod Walks
 pub mod Steps
 pub mod Descriptions
 pub mod Turns
-pub mod Falls
-pub mod Counts
 pub mod Loops
+pub mod Falls
 pub mod Conversions
 pub mod RoundTrip

@@ -1,5 +1,6 @@
 -- From one form to the other and back: the same octets, and as many.
 -- Assumes nothing.
+use Rattle.std.specs.Prelude.{Option, Some, None, Result, Ok, Err}
 use mathlib.Core.Path.{◌≡◌, refl, sym, ap, ap₂, ◌∙◌, subst}
 use mathlib.Core.List.{List, [], ◌∷◌, ◌++◌, append_assoc, append-nil, reverse, reverse-reverse}
 use mathlib.Core.Bool.{Bool, true, false, cond, ◌&&◌, ◌||◌, true≢false}
@@ -10,10 +11,11 @@ use borrow.Author.Tests.{le-ltb, ltb-false, eqb-true}
 use lib.Dec.{eqb, ltb}
 use lib.ListN.{length, take, drop, length-append, length-reverse, take-append-drop}
 use lib.Seq.{take_at, drop_at, length-take-le}
-use Rattle.refusal.specs.Refusal.{data_length}
+use Rattle.refusal.specs.declared.Refusal.{Refusal}
+use Rattle.refusal.specs.declared.Refusal.TheVariants as refusal
 use Rattle.scalars.specs.Scalars.{parts_of, size}
-use Rattle.dataset.specs.Descriptions.{Element, Found, described, fault, look_up}
-use Rattle.dataset.specs.Walk.{Walked, stopped, walked, behind, then, times, turned, counts, number_of, Count, none, value, count_behind, with_items, items_of, walk_of, through_found, nested_of, whole_of}
+use Rattle.dataset.specs.Descriptions.{Element, look_up}
+use Rattle.dataset.specs.Walk.{Walked, stopped, walked, behind, then, times, turned, counts, number_of, count_behind, with_items, items_of, walk_of, through_found, nested_of, whole_of}
 use Rattle.dataset.specs.declared.Form.{Form}
 use Rattle.dataset.specs.declared.Form.TheVariants.{Wire, Host}
 use Rattle.dataset.proofs.Walks.{Even, even-whole}
@@ -88,7 +90,7 @@ part-back k ks d left b h q =
           let x : List ℕ = r ++ (b ++ rest) in
           let enough : ltb (length x) k ≡ false = le-ltb (length x) k (omega (arith, length-append r (b ++ rest))) in
           ap (turned (k ∷ ks)) (append_assoc r b rest)
-          ∙ ap (λ (t : Bool). cond t (stopped data_length) (behind (reverse (take k x)) (turned ks (drop k x)))) enough
+          ∙ ap (λ (t : Bool). cond t (stopped refusal.DataLength) (behind (reverse (take k x)) (turned ks (drop k x)))) enough
           ∙ ap₂ (λ (m n : List ℕ). behind (reverse m) (turned ks n)) (take_at r (b ++ rest) k long) (drop_at r (b ++ rest) k long)
           ∙ ap₂ behind (reverse-reverse (take k d)) (q.back rest);
     }
@@ -98,7 +100,7 @@ unfolding Undoes
 undoes-turned [] d left done e = nothing (turned []) d left done (λ rest. refl) e
 undoes-turned (k ∷ ks) d left done e = go (ltb (length d) k) refl e (undoes-turned ks)
   where
-    go : (b : Bool) → ltb (length d) k ≡ b → cond b (stopped data_length) (then (walked (drop k d) (reverse (take k d))) (turned ks)) ≡ walked left done → Undoes (turned ks) (turned ks)
+    go : (b : Bool) → ltb (length d) k ≡ b → cond b (stopped refusal.DataLength) (then (walked (drop k d) (reverse (take k d))) (turned ks)) ≡ walked left done → Undoes (turned ks) (turned ks)
         → Back (turned (k ∷ ks)) d left done
     go true h q ih = let z : ◌≡◌ {A = ℕ} 0 1 = cc in absurd (omega arith)
     go false h q ih =
@@ -143,7 +145,7 @@ record Single (k : ℕ) (d a : List ℕ) : Type 0 where
 single : (k : ℕ) (d l a : List ℕ) → times 1 (turned (k ∷ [])) d ≡ walked l a → Single k d a
 single k d l a q = go (ltb (length d) k) refl q
   where
-    go : (b : Bool) → ltb (length d) k ≡ b → then (cond b (stopped data_length) (then (walked (drop k d) (reverse (take k d))) (turned []))) (times 0 (turned (k ∷ []))) ≡ walked l a → Single k d a
+    go : (b : Bool) → ltb (length d) k ≡ b → then (cond b (stopped refusal.DataLength) (then (walked (drop k d) (reverse (take k d))) (turned []))) (times 0 (turned (k ∷ []))) ≡ walked l a → Single k d a
     go true h e = let z : ◌≡◌ {A = ℕ} 0 1 = cc in absurd (omega arith)
     go false h e =
         let r : List ℕ = reverse (take k d) in
@@ -168,7 +170,7 @@ module _ (nested nested' : ℕ → ℕ → List ℕ → Walked) (u : (t n : ℕ)
   same_count form e n d l a rest h q = go (eqb e.count 1) (counts e.type) refl refl
     where
       go : (b c : Bool) → eqb e.count 1 ≡ b → counts e.type ≡ c
-          → cond (b && c) (value (number_of (other form) (take (size (parts_of e.type)) (a ++ rest)))) none ≡ cond (b && c) (value (number_of form (take (size (parts_of e.type)) d))) none
+          → cond (b && c) (Some (number_of (other form) (take (size (parts_of e.type)) (a ++ rest)))) None ≡ cond (b && c) (Some (number_of form (take (size (parts_of e.type)) d))) None
       go false c x y = refl
       go true false x y = refl
       go true true x y =
@@ -178,31 +180,31 @@ module _ (nested nested' : ℕ → ℕ → List ℕ → Walked) (u : (t n : ℕ)
           let r : List ℕ = reverse (take o.k d) in
           let k : size (parts_of e.type) ≡ o.k = ap size o.parts ∙ add-zero o.k in
           let long : length r ≡ o.k = length-reverse (take o.k d) ∙ length-take-le o.k d w.fits in
-          ap value
+          ap Some
           (ap₂ (λ (m : ℕ) (s : List ℕ). number_of (other form) (take m (s ++ rest))) k w.turns
           ∙ ap (number_of (other form)) (take_at r rest o.k long)
           ∙ number-back form (take o.k d)
           ∙ ap (λ (m : ℕ). number_of form (take m d)) (sym k))
 
-  undoes-walk : (form : Form) (es : List Element) (c : Count) → Undoes (walk_of form nested es c) (walk_of (other form) nested' es c)
+  undoes-walk : (form : Form) (es : List Element) (c : Option ℕ) → Undoes (walk_of form nested es c) (walk_of (other form) nested' es c)
   unfolding Undoes
   undoes-walk form [] c d left done e = nothing (walk_of (other form) nested' [] c) d left done (λ rest. refl) e
   undoes-walk form (e ∷ es) c d left done q = go e.count c refl q (undoes-walk form es)
     where
-      step : (n : ℕ) → (e.count ≡ 1 → n ≡ 1) → on form nested e es d n ≡ walked left done → ((c : Count) → Undoes (walk_of form nested es c) (walk_of (other form) nested' es c))
+      step : (n : ℕ) → (e.count ≡ 1 → n ≡ 1) → on form nested e es d n ≡ walked left done → ((c : Option ℕ) → Undoes (walk_of form nested es c) (walk_of (other form) nested' es c))
           → Back (λ x. on (other form) nested' e es x n) d left done
       step n h q ih =
-          let c' : Count = count_behind form e d in
+          let c' : Option ℕ = count_behind form e d in
           let s = split (items_of nested e.type n d) (walk_of form nested es c') left done q in
           both (items_of nested' e.type n) (walk_of (other form) nested' es c') (λ x. on (other form) nested' e es x n) d left done s
           (undoes-items e.type n d s.l s.a s.first) (ih c' s.l left s.b s.second)
-          (λ rest. ap (λ (x : Count). then (items_of nested' e.type n (s.a ++ rest)) (walk_of (other form) nested' es x)) (same_count form e n d s.l s.a rest h s.first))
+          (λ rest. ap (λ (x : Option ℕ). then (items_of nested' e.type n (s.a ++ rest)) (walk_of (other form) nested' es x)) (same_count form e n d s.l s.a rest h s.first))
 
-      go : (m : ℕ) (c : Count) → e.count ≡ m → with_items c m (on form nested e es d) ≡ walked left done → ((c : Count) → Undoes (walk_of form nested es c) (walk_of (other form) nested' es c))
+      go : (m : ℕ) (c : Option ℕ) → e.count ≡ m → with_items c m (on form nested e es d) ≡ walked left done → ((c : Option ℕ) → Undoes (walk_of form nested es c) (walk_of (other form) nested' es c))
           → Back (λ x. with_items c m (on (other form) nested' e es x)) d left done
       go (suc n) c k q ih = step (suc n) (λ f. sym k ∙ f) q ih
-      go zero none k q ih = let z : ◌≡◌ {A = ℕ} 0 1 = cc in absurd (omega arith)
-      go zero (value m) k q ih = step m (λ f. absurd (omega arith)) q ih
+      go zero None k q ih = let z : ◌≡◌ {A = ℕ} 0 1 = cc in absurd (omega arith)
+      go zero (Some m) k q ih = step m (λ f. absurd (omega arith)) q ih
 
 undoes-nested : (levels : ℕ) (form : Form) (run : List ℕ) (id n : ℕ) → Undoes (nested_of levels form run id n) (nested_of levels (other form) run id n)
 unfolding Undoes
@@ -211,22 +213,22 @@ undoes-nested zero form run id (suc n) d left done q = let z : ◌≡◌ {A = �
 undoes-nested (suc levels) form run id zero d left done q = nothing _ d left done (λ rest. refl) q
 undoes-nested (suc levels) form run id (suc n) d left done q = go (look_up id run) q (undoes-nested levels form run)
   where
-    go : (w : Found) → through_found w (λ es. times (suc n) (walk_of form (nested_of levels form run) es none) d) ≡ walked left done
+    go : (w : Result (List Element) Refusal) → through_found w (λ es. times (suc n) (walk_of form (nested_of levels form run) es None) d) ≡ walked left done
         → ((t m : ℕ) → Undoes (nested_of levels form run t m) (nested_of levels (other form) run t m))
-        → Back (λ x. through_found w (λ es. times (suc n) (walk_of (other form) (nested_of levels (other form) run) es none) x)) d left done
-    go (described es) q ih =
-        undoes-times (suc n) (walk_of form (nested_of levels form run) es none) (walk_of (other form) (nested_of levels (other form) run) es none)
-        (undoes-walk (nested_of levels form run) (nested_of levels (other form) run) ih form es none) d left done q
-    go (fault r) q ih = let z : ◌≡◌ {A = ℕ} 0 1 = cc in absurd (omega arith)
+        → Back (λ x. through_found w (λ es. times (suc n) (walk_of (other form) (nested_of levels (other form) run) es None) x)) d left done
+    go (Ok es) q ih =
+        undoes-times (suc n) (walk_of form (nested_of levels form run) es None) (walk_of (other form) (nested_of levels (other form) run) es None)
+        (undoes-walk (nested_of levels form run) (nested_of levels (other form) run) ih form es None) d left done q
+    go (Err r) q ih = let z : ◌≡◌ {A = ℕ} 0 1 = cc in absurd (omega arith)
 
 undoes-whole : (form : Form) (run : List ℕ) (id : ℕ) → Undoes (whole_of form run id) (whole_of (other form) run id)
 unfolding Undoes
 undoes-whole form run id d left done q = go (look_up id run) q
   where
-    go : (w : Found) → through_found w (λ es. walk_of form (nested_of 4 form run) es none d) ≡ walked left done
-        → Back (λ x. through_found w (λ es. walk_of (other form) (nested_of 4 (other form) run) es none x)) d left done
-    go (described es) q = undoes-walk (nested_of 4 form run) (nested_of 4 (other form) run) (undoes-nested 4 form run) form es none d left done q
-    go (fault r) q = let z : ◌≡◌ {A = ℕ} 0 1 = cc in absurd (omega arith)
+    go : (w : Result (List Element) Refusal) → through_found w (λ es. walk_of form (nested_of 4 form run) es None d) ≡ walked left done
+        → Back (λ x. through_found w (λ es. walk_of (other form) (nested_of 4 (other form) run) es None x)) d left done
+    go (Ok es) q = undoes-walk (nested_of 4 form run) (nested_of 4 (other form) run) (undoes-nested 4 form run) form es None d left done q
+    go (Err r) q = let z : ◌≡◌ {A = ℕ} 0 1 = cc in absurd (omega arith)
 
 -- what one form converts to without rest, the other converts back
 pub there_and_back : (form : Form) (run : List ℕ) (id : ℕ) (d h : List ℕ) → whole_of form run id d ≡ walked [] h → whole_of (other form) run id h ≡ walked [] d

@@ -1,26 +1,24 @@
 -- Walks one behind the other; what holds of every walk because it holds of each part and is kept by `then`; how much of the data a walk takes.
 -- Assumes nothing.
+use Rattle.std.specs.Prelude.{Option, Some, None, Result, Ok, Err}
 use mathlib.Core.Path.{◌≡◌, refl, sym, ap, ◌∙◌}
 use mathlib.Core.List.{List, [], ◌∷◌, ◌++◌, append_assoc, append-nil, reverse}
 use mathlib.Core.Bool.{Bool, true, false, cond}
-use Prim.Native.Nat.{ℕ, zero, suc, ◌+◌, ◌-◌, ◌*◌, ◌≤◌}
+use Prim.Native.Nat.{ℕ, zero, suc, ◌+◌, ◌-◌, ◌≤◌}
 use native.Mathlib.Nat.{sub_self}
 use native.Mathlib.Omega.{arith}
-use borrow.Author.Tests.{ltb-false, eqb-false}
+use borrow.Author.Tests.{ltb-false}
 use lib.Dec.{ltb}
 use lib.ListN.{length, take, drop, length-append, length-take, length-drop, length-reverse}
 use lib.Seq.{drop-drop}
-use Rattle.refusal.specs.Refusal.{not_described, nesting, description, data_length}
+use Rattle.refusal.specs.declared.Refusal.{Refusal}
+use Rattle.refusal.specs.declared.Refusal.TheVariants as refusal
 use Rattle.scalars.specs.Scalars.{parts_of}
-use Rattle.dataset.specs.Descriptions.{Element, Found, described, fault, scan, look_up}
-use Rattle.dataset.specs.Walk.{Walked, stopped, walked, behind, then, times, turned, Count, none, value, count_behind, with_items, items_of, walk_of, through_found, unless_none, nested_of, whole_of}
+use Rattle.dataset.specs.Descriptions.{Element, look_up}
+use Rattle.dataset.specs.Walk.{Walked, stopped, walked, behind, then, times, turned, count_behind, with_items, items_of, walk_of, through_found, unless_none, nested_of, whole_of}
 use Rattle.dataset.specs.declared.Form.{Form}
 
--- nothing converted before a walk
-pub behind-nil : (w : Walked) → behind [] w ≡ w
-behind-nil (stopped r) = refl
-behind-nil (walked left done) = refl
-
+-- what is converted before a walk, and before that
 behind-behind : (a b : List ℕ) (w : Walked) → behind a (behind b w) ≡ behind (a ++ b) w
 behind-behind a b (stopped r) = refl
 behind-behind a b (walked left done) = ap (walked left) (sym (append_assoc a b done))
@@ -33,37 +31,16 @@ pub then-assoc : (w : Walked) (f g : List ℕ → Walked) → then (then w f) g 
 then-assoc (stopped r) f g = refl
 then-assoc (walked left done) f g = behind-then done (f left) g
 
--- a look-up's fault has a number
-abbrev Numbered : Found → Type 0
-Numbered (described es) = Unit {0}
-Numbered (fault r) = r ≡ 0 → ⊥
-
-either : (b : Bool) (x y : Found) → Numbered x → Numbered y → Numbered (cond b x y)
-either true x y h k = h
-either false x y h k = k
-
-scan-numbered : (m id : ℕ) (run : List ℕ) → Numbered (scan m id run)
-scan-numbered zero id run = eqb-false not_described 0 refl
-scan-numbered (suc m) id [] = eqb-false not_described 0 refl
-scan-numbered (suc m) id (x ∷ []) = eqb-false description 0 refl
-scan-numbered (suc m) id (x ∷ n ∷ run) =
-    let bad : Numbered (fault description) = eqb-false description 0 refl in
-    let next : Numbered (scan m id (drop (2 * n) run)) = scan-numbered m id (drop (2 * n) run) in
-    search either
-
-numbered : (id : ℕ) (run : List ℕ) → Numbered (look_up id run)
-numbered id run = either (ltb 4096 (length run)) _ _ (eqb-false description 0 refl) (scan-numbered (length run) id run)
-
--- what every walk keeps: it holds where a walk stops with a number, takes nothing or one part, and of one walk behind another
-module _ (Q : List ℕ → Walked → Type 0) (stop : (d : List ℕ) (r : ℕ) → (r ≡ 0 → ⊥) → Q d (stopped r)) (here : (d : List ℕ) → Q d (walked d []))
+-- what every walk keeps: it holds where a walk stops, takes nothing or one part, and of one walk behind another
+module _ (Q : List ℕ → Walked → Type 0) (stop : (d : List ℕ) (r : Refusal) → Q d (stopped r)) (here : (d : List ℕ) → Q d (walked d []))
     (part : (k : ℕ) (d : List ℕ) → k ≤ length d → Q d (walked (drop k d) (reverse (take k d))))
     (more : (d : List ℕ) (w : Walked) (f : List ℕ → Walked) → Q d w → ((l : List ℕ) → Q l (f l)) → Q d (then w f)) where
   pub of-turned : (ks d : List ℕ) → Q d (turned ks d)
   of-turned [] d = here d
   of-turned (k ∷ ks) d = short (ltb (length d) k) refl (of-turned ks)
     where
-      short : (b : Bool) → ltb (length d) k ≡ b → ((l : List ℕ) → Q l (turned ks l)) → Q d (cond b (stopped data_length) (then (walked (drop k d) (reverse (take k d))) (turned ks)))
-      short true e h = stop d data_length (eqb-false data_length 0 refl)
+      short : (b : Bool) → ltb (length d) k ≡ b → ((l : List ℕ) → Q l (turned ks l)) → Q d (cond b (stopped refusal.DataLength) (then (walked (drop k d) (reverse (take k d))) (turned ks)))
+      short true e h = stop d refusal.DataLength
       short false e h = more d _ (turned ks) (part k d (ltb-false (length d) k e)) h
 
   pub of-times : (n : ℕ) (f : List ℕ → Walked) → ((l : List ℕ) → Q l (f l)) → (d : List ℕ) → Q d (times n f d)
@@ -78,35 +55,35 @@ module _ (Q : List ℕ → Walked → Type 0) (stop : (d : List ℕ) (r : ℕ) �
         which true = of-times n (turned (parts_of t)) (of-turned (parts_of t)) d
         which false = h t n d
 
-    of-with : (c : Count) (n : ℕ) (f : ℕ → Walked) (d : List ℕ) → ((m : ℕ) → Q d (f m)) → Q d (with_items c n f)
+    of-with : (c : Option ℕ) (n : ℕ) (f : ℕ → Walked) (d : List ℕ) → ((m : ℕ) → Q d (f m)) → Q d (with_items c n f)
     of-with c (suc n) f d k = k (suc n)
-    of-with none zero f d k = stop d description (eqb-false description 0 refl)
-    of-with (value m) zero f d k = k m
+    of-with None zero f d k = stop d refusal.Description
+    of-with (Some m) zero f d k = k m
 
-    pub of-walk : (form : Form) (es : List Element) (c : Count) (d : List ℕ) → Q d (walk_of form nested es c d)
+    pub of-walk : (form : Form) (es : List Element) (c : Option ℕ) (d : List ℕ) → Q d (walk_of form nested es c d)
     of-walk form [] c d = here d
     of-walk form (e ∷ es) c d =
         of-with c e.count _ d
         λ n. more d (items_of nested e.type n d) (walk_of form nested es (count_behind form e d)) (of-items e.type n d)
         λ l. of-walk form es (count_behind form e d) l
 
-  of-found : (w : Found) (f : List Element → Walked) (d : List ℕ) → Numbered w → ((es : List Element) → Q d (f es)) → Q d (through_found w f)
-  of-found (described es) f d n h = h es
-  of-found (fault r) f d n h = stop d r n
+  of-found : (w : Result (List Element) Refusal) (f : List Element → Walked) (d : List ℕ) → ((es : List Element) → Q d (f es)) → Q d (through_found w f)
+  of-found (Ok es) f d h = h es
+  of-found (Err r) f d h = stop d r
 
   of-unless : (n : ℕ) (d : List ℕ) (w : Walked) → Q d w → Q d (unless_none n d w)
   of-unless zero d w h = here d
   of-unless (suc n) d w h = h
 
   pub of-nested : (levels : ℕ) (form : Form) (run : List ℕ) (id n : ℕ) (d : List ℕ) → Q d (nested_of levels form run id n d)
-  of-nested zero form run id n d = of-unless n d (stopped nesting) (stop d nesting (eqb-false nesting 0 refl))
+  of-nested zero form run id n d = of-unless n d (stopped refusal.Nesting) (stop d refusal.Nesting)
   of-nested (suc levels) form run id n d =
       of-unless n d _
-      (of-found (look_up id run) _ d (numbered id run)
-      λ es. of-times n _ (of-walk (nested_of levels form run) (of-nested levels form run) form es none) d)
+      (of-found (look_up id run) _ d
+      λ es. of-times n _ (of-walk (nested_of levels form run) (of-nested levels form run) form es None) d)
 
   pub of-whole : (form : Form) (run : List ℕ) (id : ℕ) (d : List ℕ) → Q d (whole_of form run id d)
-  of-whole form run id d = of-found (look_up id run) _ d (numbered id run) λ es. of-walk (nested_of 4 form run) (of-nested 4 form run) form es none d
+  of-whole form run id d = of-found (look_up id run) _ d λ es. of-walk (nested_of 4 form run) (of-nested 4 form run) form es None d
 
 -- a walk takes octets from the front of the data: what it leaves is the rest
 abbrev pub Takes : List ℕ → Walked → Type 0
@@ -160,33 +137,29 @@ even-here d = omega arith
 -- each walk takes octets from the front
 pub takes-items : (levels : ℕ) (form : Form) (run : List ℕ) (t n : ℕ) (d : List ℕ) → Takes d (items_of (nested_of levels form run) t n d)
 takes-items levels form run =
-    of-items Takes (λ d r _. tt) takes-here takes_part takes-more (nested_of levels form run)
-    (of-nested Takes (λ d r _. tt) takes-here takes_part takes-more levels form run)
+    of-items Takes (λ d r. tt) takes-here takes_part takes-more (nested_of levels form run)
+    (of-nested Takes (λ d r. tt) takes-here takes_part takes-more levels form run)
+
+pub takes-walk : (levels : ℕ) (form : Form) (run : List ℕ) (es : List Element) (c : Option ℕ) (d : List ℕ)
+    → Takes d (walk_of form (nested_of levels form run) es c d)
+takes-walk levels form run =
+    of-walk Takes (λ d r. tt) takes-here takes_part takes-more (nested_of levels form run)
+    (of-nested Takes (λ d r. tt) takes-here takes_part takes-more levels form run) form
 
 -- host form has no gaps: as many octets are converted as are taken
 pub even-items : (levels : ℕ) (form : Form) (run : List ℕ) (t n : ℕ) (d : List ℕ) → Even d (items_of (nested_of levels form run) t n d)
 even-items levels form run =
-    of-items Even (λ d r _. tt) even-here even-part even-more (nested_of levels form run)
-    (of-nested Even (λ d r _. tt) even-here even-part even-more levels form run)
+    of-items Even (λ d r. tt) even-here even-part even-more (nested_of levels form run)
+    (of-nested Even (λ d r. tt) even-here even-part even-more levels form run)
+
+pub even-walk : (levels : ℕ) (form : Form) (run : List ℕ) (es : List Element) (c : Option ℕ) (d : List ℕ)
+    → Even d (walk_of form (nested_of levels form run) es c d)
+even-walk levels form run =
+    of-walk Even (λ d r. tt) even-here even-part even-more (nested_of levels form run)
+    (of-nested Even (λ d r. tt) even-here even-part even-more levels form run) form
 
 pub even-whole : (form : Form) (run : List ℕ) (id : ℕ) (d : List ℕ) → Even d (whole_of form run id d)
-even-whole = of-whole Even (λ d r _. tt) even-here even-part even-more
-
--- a walk that stops does so with a number
-abbrev pub Stops : List ℕ → Walked → Type 0
-Stops d (stopped r) = r ≡ 0 → ⊥
-Stops d (walked left done) = Unit {0}
-
-stops-more : (d : List ℕ) (w : Walked) (f : List ℕ → Walked) → Stops d w → ((l : List ℕ) → Stops l (f l)) → Stops d (then w f)
-stops-more d (stopped r) f h k = h
-stops-more d (walked left done) f h k = on (f left) (k left)
-  where
-    on : (w : Walked) → Stops left w → Stops d (behind done w)
-    on (stopped r) m = m
-    on (walked l more) m = tt
-
-pub stops-whole : (form : Form) (run : List ℕ) (id : ℕ) (d : List ℕ) → Stops d (whole_of form run id d)
-stops-whole = of-whole Stops (λ d r h. h) (λ d. tt) (λ k d h. tt) stops-more
+even-whole = of-whole Even (λ d r. tt) even-here even-part even-more
 
 -- a dataset is an array of one, with five levels
 then-nothing : (w : Walked) → then w (λ l. walked l []) ≡ w
@@ -196,6 +169,6 @@ then-nothing (walked left done) = ap (walked left) (append-nil done)
 pub whole-nested : (form : Form) (run : List ℕ) (id : ℕ) (d : List ℕ) → nested_of 5 form run id 1 d ≡ whole_of form run id d
 whole-nested form run id d = go (look_up id run)
   where
-    go : (w : Found) → through_found w (λ es. times 1 (walk_of form (nested_of 4 form run) es none) d) ≡ through_found w (λ es. walk_of form (nested_of 4 form run) es none d)
-    go (described es) = then-nothing (walk_of form (nested_of 4 form run) es none d)
-    go (fault r) = refl
+    go : (w : Result (List Element) Refusal) → through_found w (λ es. times 1 (walk_of form (nested_of 4 form run) es None) d) ≡ through_found w (λ es. walk_of form (nested_of 4 form run) es None d)
+    go (Ok es) = then-nothing (walk_of form (nested_of 4 form run) es None d)
+    go (Err r) = refl

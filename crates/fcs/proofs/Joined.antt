@@ -2,11 +2,13 @@
 -- Assumes nothing.
 use mathlib.Core.Path.{◌≡◌, refl, ap, sym, ◌∙◌}
 use mathlib.Core.List.{List, [], ◌∷◌, ◌++◌}
-use Prim.Native.Nat.{ℕ, ◌-◌}
+use Prim.Native.Nat.{ℕ, zero, suc, ◌+◌, ◌*◌, ◌<◌}
 use lib.Bits.{bit_xor}
 use native.Mathlib.Omega.{arith}
-use lib.ListN.{length, take, drop, take-append-drop, length-drop}
-use lib.Seq.{take_all}
+use lib.ListN.{get_or, take, drop, take-append-drop}
+use lib.Seq.{drop-drop}
+use Rattle.std.specs.List.{fold}
+use Rattle.std.specs.Simd.{first_chunks}
 use Rattle.fcs_steps.specs.Steps.{bits}
 use Rattle.fcs.specs.Fcs.{register}
 
@@ -18,6 +20,15 @@ register-append c (x ∷ a) b = register-append (bits 8 (bit_xor c x)) a b
 pub register-split : (c n : ℕ) (s : List ℕ) → register c s ≡ register (register c (take n s)) (drop n s)
 register-split c n s = ap (register c) (sym (take-append-drop n s)) ∙ register-append c (take n s) (drop n s)
 
--- the part of a list behind n, cut at the list's end, is all that is left
-pub part-behind : (n : ℕ) (s : List ℕ) → take (length s - n) (drop n s) ≡ drop n s
-part-behind n s = take_all (length s - n) (drop n s) (rw length-drop (omega arith))
+-- the register is a fold over the octets
+pub register-fold : (c : ℕ) (s : List ℕ) → fold (λ (a x : ℕ). bits 8 (bit_xor a x)) c s ≡ register c s
+register-fold c [] = refl
+register-fold c (x ∷ s) = register-fold (bits 8 (bit_xor c x)) s
+
+-- the i-th of the chunks of n octets
+pub chunk_at : (n k i : ℕ) (s : List ℕ) → i < k → get_or (first_chunks n k s) i [] ≡ take n (drop (i * n) s)
+chunk_at n zero i s h = absurd (omega arith)
+chunk_at n (suc k) zero s h = let e : 0 ≡ 0 * n = omega arith in ap (λ (m : ℕ). take n (drop m s)) e
+chunk_at n (suc k) (suc i) s h =
+    let e : n + i * n ≡ suc i * n = omega arith in
+    chunk_at n k i (drop n s) (omega arith) ∙ ap (take n) (drop-drop (i * n) n s ∙ ap (λ (m : ℕ). drop m s) e)

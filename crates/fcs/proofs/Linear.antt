@@ -1,4 +1,5 @@
--- Steps of an exclusive or are the exclusive or of the steps; so n steps of a number are those of its low n bits, and the rest moved down.
+-- Steps of an exclusive or are the exclusive or of the steps; so n steps of a number are those of its low n bits,
+-- and the rest moved down.
 -- Assumes nothing.
 use mathlib.Core.Path.{◌≡◌, refl, sym, ap, ap₂, ◌∙◌}
 use Prim.Native.Nat.{ℕ, zero, suc, ◌+◌, ◌*◌, ◌/◌, ◌%◌, ◌^◌, ◌<◌}

@@ -1,4 +1,5 @@
--- Exclusive or is associative, which the library's laws of it do not have: both sides have the same last digit and the same half.
+-- Exclusive or is associative, which the library's laws of it do not have: both sides have the same last digit and
+-- the same half.
 -- Assumes nothing.
 use mathlib.Core.Path.{◌≡◌, refl, sym, ap, ◌∙◌}
 use Prim.Native.Nat.{ℕ, zero, suc, ◌/◌, ◌%◌, ◌<◌}
@@ -15,7 +16,8 @@ digit_assoc (suc zero) (suc zero) (suc (suc z)) hx hy hz = absurd (omega arith)
 digit_assoc (suc zero) (suc (suc y)) z hx hy hz = absurd (omega arith)
 digit_assoc (suc (suc x)) y z hx hy hz = absurd (omega arith)
 
-step : (n : ℕ) → ((b c : ℕ) → bit_xor (bit_xor (n / 2) b) c ≡ bit_xor (n / 2) (bit_xor b c)) → (b c : ℕ) → bit_xor (bit_xor n b) c ≡ bit_xor n (bit_xor b c)
+step : (n : ℕ) → ((b c : ℕ) → bit_xor (bit_xor (n / 2) b) c ≡ bit_xor (n / 2) (bit_xor b c)) → (b c : ℕ)
+    → bit_xor (bit_xor n b) c ≡ bit_xor n (bit_xor b c)
 step n ih b c =
     let m : bit_xor (bit_xor n b) c % 2 ≡ bit_xor n (bit_xor b c) % 2 =
     xor_mod (bit_xor n b) c 1 ∙ ap (λ (x : ℕ). bit_xor x (c % 2)) (xor_mod n b 1)

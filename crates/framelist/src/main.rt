@@ -1,13 +1,14 @@
-// A capture listed: PD frames read from standard input, one a line, each handed to a subscription and answered by a line on standard output.
+// A capture listed: PD frames read from standard input, one a line, each handed to a subscription and answered by a
+// line on standard output.
 #![tactic(auto)]
 
-ghost use Rattle.std.specs.Prelude.{◌≡◌, ◌<◌, ◌≤◌, length, IfOk};
+ghost use Rattle.std.specs.Prelude.{◌≤◌};
 
-use capture::HeadLine;
+use answer::Room;
+use line::input::{self, Program};
 use line::output;
-use listing::{Listing, Outcome};
-use std::io::{self, Read, Stdin, Stdout};
-use topography::TopoCounts;
+use listing::{Listing, Outcome, Totals};
+use std::io::{self, Stdout};
 
 // The longest line of the form: sender, destination, time and their spaces, and 2,944 digits.
 const LINE: usize = 2_979;
@@ -22,342 +23,121 @@ const ROOM: usize = 65_792;
 #[derive(Clone, Copy)]
 enum Stage {
     Head,
-    Frames,
+    Frames(Listing),
     Over,
 }
 
-// The lines after line 1, the octets of answers that wait to be written, and the octets of the line begun: more than its room where it is too long.
-#[derive(Clone, Copy)]
-struct Run {
+// The lines answered after line 1, the store of slot 0, a datagram's octets, and the answers that wait to be written.
+#[derive(Drop)]
+struct Lister {
+    to: Stdout,
     stage: Stage,
-    listing: Listing,
     lines: u64,
+    store: [u8; 1432],
+    buffer: [u8; 1472],
+    out: [u8; ROOM],
     waiting: usize,
-    begun: usize,
+    ghost within: { waiting ≤ 65_792 },
 }
 
-// A run after a block, and whether there was none or none is wanted.
-#[derive(Clone, Copy)]
-struct Turn {
-    run: Run,
-    is_over: bool,
-}
-
-// Before line 1.
-fn begin() -> Run
-    ensures { result.waiting ≡ 0 }
-{
-    Run {
-        stage: Stage::Head,
-        listing: listing::begin(TopoCounts {
-            etb_topo_cnt: 0,
-            op_trn_topo_cnt: 0,
-        }),
-        lines: 0,
-        waiting: 0,
-        begun: 0,
-    }
-}
-
-// Line 1 is bad.
-fn bad_start(r: Run, out: &mut [u8]) -> Run
-    ensures { result.waiting ≤ length out.old }
-{
-    let l = r.listing;
-    Run {
-        stage: Stage::Over,
-        listing: l,
-        lines: 0,
-        waiting: answer::text(out, r.waiting, b"bad start\n"),
-        begun: 0,
-    }
-}
-
-// Line 1 gives the local counters.
-fn start(r: Run, local: TopoCounts) -> Run
-    ensures { result.waiting ≡ r.waiting }
-{
-    Run {
-        stage: Stage::Frames,
-        listing: listing::begin(local),
-        lines: 0,
-        waiting: r.waiting,
-        begun: 0,
-    }
-}
-
-fn take_head(r: Run, s: &[u8], out: &mut [u8]) -> Run
-    requires { r.waiting ≤ length out.old }
-    ensures { result.waiting ≤ length out.old }
-{
-    let h = capture::read_head(s);
-    match h {
-        HeadLine::Counters(local) => start(r, local),
-        HeadLine::Bad => bad_start(r, out),
-    }
-}
-
-// What became of the next line is answered.
-fn reply(to: Stdout, r: Run, l: Listing, o: Outcome, out: &mut [u8]) -> io::Result<Run>
-    ensures { IfOk result (λ after. after.waiting ≤ length out.old) }
-{
-    let n = std::num::wrapping_add_u64(r.lines, 1);
-    let at = listing::put_outcome(out, r.waiting, n, o);
-    let waiting = output::flush(to, out, at, BLOCK)?;
-    Ok(Run {
-        stage: Stage::Frames,
-        listing: l,
-        lines: n,
-        waiting: waiting,
-        begun: 0,
-    })
-}
-
-fn take_frame(
-    to: Stdout,
-    r: Run,
-    s: &[u8],
-    store: &mut [u8],
-    buffer: &mut [u8; 1472],
-    out: &mut [u8],
-) -> io::Result<Run>
-    ensures { IfOk result (λ after. after.waiting ≤ length out.old) }
-{
-    let before = r.listing;
-    let x = listing::list(before, s, store, buffer);
-    let l = x.listing;
-    let o = x.outcome;
-    reply(to, r, l, o, out)
-}
-
-// A whole line.
-fn take_line(
-    to: Stdout,
-    r: Run,
-    s: &[u8],
-    store: &mut [u8],
-    buffer: &mut [u8; 1472],
-    out: &mut [u8],
-) -> io::Result<Run>
-    requires { r.waiting ≤ length out.old }
-    ensures { IfOk result (λ after. after.waiting ≤ length out.old) }
-{
-    let stage = r.stage;
-    match stage {
-        Stage::Head => Ok(take_head(r, s, out)),
-        Stage::Frames => take_frame(to, r, s, store, buffer, out),
-        Stage::Over => Ok(r),
-    }
-}
-
-// A line gathered from several blocks. One too long is taken as an empty line is.
-fn take_gathered(
-    to: Stdout,
-    r: Run,
-    line: &[u8],
-    begun: usize,
-    store: &mut [u8],
-    buffer: &mut [u8; 1472],
-    out: &mut [u8],
-) -> io::Result<Run>
-    requires { r.waiting ≤ length out.old }
-    ensures { IfOk result (λ after. after.waiting ≤ length out.old) }
-{
-    let n = line::ended(line, begun);
-    take_line(to, r, &line[..n], store, buffer, out)
-}
-
-fn carry(r: Run, begun: usize) -> Run
-    ensures { result.waiting ≡ r.waiting }
-{
-    let stage = r.stage;
-    let l = r.listing;
-    Run {
-        stage: stage,
-        listing: l,
-        lines: r.lines,
-        waiting: r.waiting,
-        begun: begun,
-    }
-}
-
-// Octets of a block up to where a line ends or the block does.
-fn take_part(
-    to: Stdout,
-    r: Run,
-    part: &[u8],
-    is_end: bool,
-    line: &mut [u8],
-    store: &mut [u8],
-    buffer: &mut [u8; 1472],
-    out: &mut [u8],
-) -> io::Result<Run>
-    requires { r.waiting ≤ length out.old }
-    ensures { IfOk result (λ after. after.waiting ≤ length out.old) }
-{
-    if is_end {
-        if r.begun == 0 {
-            return take_line(to, r, part, store, buffer, out);
-        }
-        let whole = line::gather(line, r.begun, part);
-        return take_gathered(to, r, line, whole, store, buffer, out);
-    }
-    Ok(carry(r, line::gather(line, r.begun, part)))
-}
-
-fn take_block(
-    to: Stdout,
-    begin: Run,
-    block: &[u8],
-    line: &mut [u8],
-    store: &mut [u8],
-    buffer: &mut [u8; 1472],
-    out: &mut [u8],
-) -> io::Result<Run>
-    requires { begin.waiting ≤ length out.old }
-    ensures { IfOk result (λ after. after.waiting ≤ length out.old) }
-{
-    let mut r = begin;
-    let mut i: usize = 0;
-    while i < block.len() {
-        let e = line::line_end(block, i);
-        r = take_part(
+impl Lister {
+    // Before line 1.
+    fn begin(to: Stdout) -> Lister {
+        Lister {
             to,
-            r,
-            &block[i..e],
-            e < block.len(),
-            line,
-            store,
-            buffer,
-            out,
-        )?;
-        i = line::behind_end(block, e);
-    }
-    Ok(r)
-}
-
-// Nothing more is wanted of the input.
-fn is_over(r: Run) -> bool {
-    let stage = r.stage;
-    match stage {
-        Stage::Head => false,
-        Stage::Frames => false,
-        Stage::Over => true,
-    }
-}
-
-// One block read, and its lines answered. Where the read fails, the answers that wait are written.
-fn read_block(
-    input: Stdin,
-    to: Stdout,
-    r: Run,
-    block: &mut [u8],
-    line: &mut [u8],
-    store: &mut [u8],
-    buffer: &mut [u8; 1472],
-    out: &mut [u8],
-) -> io::Result<Turn>
-    requires { r.waiting ≤ length out.old }
-    ensures { IfOk result (λ turn. turn.run.waiting ≤ length out.old) }
-{
-    let mut from = input;
-    let n = match from.read(block) {
-        Ok(n) => n,
-        Err(e) => {
-            output::flush(to, out, r.waiting, 0)?;
-            return Err(e);
+            stage: Stage::Head,
+            lines: 0,
+            store: [0; 1432],
+            buffer: [0; 1472],
+            out: [0; ROOM],
+            waiting: 0,
         }
-    };
-    if n == 0 {
-        return Ok(Turn {
-            run: r,
-            is_over: true,
-        });
     }
-    let after = take_block(to, r, &block[..n], line, store, buffer, out)?;
-    Ok(Turn {
-        run: after,
-        is_over: is_over(after),
-    })
+
+    fn say_bad_start(&mut self) {
+        let mut room = Room {
+            octets: &mut self.out,
+            at: self.waiting,
+        };
+        room.text(b"bad start\n");
+        self.waiting = room.at;
+    }
+
+    // Line 1 gives the local counters.
+    fn take_head(&mut self, s: &[u8]) {
+        if let Some(local) = capture::read_head(s) {
+            self.stage = Stage::Frames(Listing::begin(local));
+        } else {
+            self.stage = Stage::Over;
+            self.say_bad_start();
+        }
+    }
+
+    // What became of the next line is answered.
+    fn reply(&mut self, outcome: Outcome) -> io::Result<()> {
+        self.lines = self.lines.wrapping_add(1);
+        let mut room = Room {
+            octets: &mut self.out,
+            at: self.waiting,
+        };
+        outcome.put(self.lines, &mut room);
+        self.waiting = room.at;
+        self.waiting = output::flush(self.to, &self.out, self.waiting, BLOCK)?;
+        Ok(())
+    }
+
+    fn put_total(&mut self, totals: Totals) {
+        let mut room = Room {
+            octets: &mut self.out,
+            at: self.waiting,
+        };
+        totals.put(&mut room);
+        self.waiting = room.at;
+    }
+
+    // The input is over: a last line without LF is bad, and the total follows.
+    fn finish(&mut self, is_begun: bool) -> io::Result<()> {
+        match self.stage {
+            Stage::Head => self.say_bad_start(),
+            Stage::Frames(listing) => {
+                if is_begun {
+                    self.reply(Outcome::BadLine)?;
+                }
+                self.put_total(listing.totals);
+            }
+            Stage::Over => {}
+        }
+        self.flush()
+    }
 }
 
-// A last line without LF is bad; the total follows.
-fn end_frames(to: Stdout, r: Run, out: &mut [u8]) -> io::Result<usize>
-    requires { r.waiting ≤ length out.old }
-    ensures { IfOk result (λ waiting. waiting ≤ length out.old) }
-{
-    let l = r.listing;
-    let t = l.totals;
-    if 0 < r.begun {
-        let last = reply(to, r, l, Outcome::BadLine, out)?;
-        return Ok(listing::put_total(out, last.waiting, t));
+impl Program for Lister {
+    fn take_line(&mut self, s: &[u8]) -> io::Result<()> {
+        match &mut self.stage {
+            Stage::Head => self.take_head(s),
+            Stage::Frames(listing) => {
+                let outcome = listing.list(s, &mut self.store, &mut self.buffer);
+                return self.reply(outcome);
+            }
+            Stage::Over => {}
+        }
+        Ok(())
     }
-    Ok(listing::put_total(out, r.waiting, t))
-}
 
-// The input is over; how many octets of answers wait.
-fn end(to: Stdout, r: Run, out: &mut [u8]) -> io::Result<usize>
-    requires { r.waiting ≤ length out.old }
-    ensures { IfOk result (λ waiting. waiting ≤ length out.old) }
-{
-    let stage = r.stage;
-    match stage {
-        Stage::Head => Ok(answer::text(out, r.waiting, b"bad start\n")),
-        Stage::Frames => end_frames(to, r, out),
-        Stage::Over => Ok(r.waiting),
+    fn is_over(&self) -> bool {
+        matches!(self.stage, Stage::Over)
     }
-}
 
-// The turns left after one of them: none once the input is over.
-fn fewer(turns: u64, is_over: bool) -> u64
-    requires { 0 < turns }
-    ensures { result < turns }
-{
-    if is_over {
-        return 0;
+    fn flush(&mut self) -> io::Result<()> {
+        self.waiting = output::flush(self.to, &self.out, self.waiting, 0)?;
+        Ok(())
     }
-    turns - 1
-}
-
-// Block after block. A proved loop has to end, and nothing says that the input does: the turns count down from a number that no run uses up.
-fn list_input(
-    input: Stdin,
-    to: Stdout,
-    begin: Run,
-    block: &mut [u8],
-    line: &mut [u8],
-    store: &mut [u8],
-    buffer: &mut [u8; 1472],
-    out: &mut [u8],
-) -> io::Result<()>
-    requires { begin.waiting ≤ length out.old }
-{
-    let mut r = begin;
-    let mut turns = u64::MAX;
-    while 0 < turns {
-        let t = read_block(input, to, r, block, line, store, buffer, out)?;
-        r = t.run;
-        turns = fewer(turns, t.is_over);
-    }
-    let n = end(to, r, out)?;
-    output::flush(to, out, n, 0)?;
-    Ok(())
 }
 
 fn main(rt: HostRuntime) -> io::Result<()> {
     let mut block = [0u8; BLOCK];
     let mut line = [0u8; LINE];
-    let mut store = [0u8; 1432];
-    let mut buffer = [0u8; 1472];
-    let mut out = [0u8; ROOM];
-    list_input(
-        rt.stdin(),
-        rt.stdout(),
-        begin(),
-        &mut block,
-        &mut line,
-        &mut store,
-        &mut buffer,
-        &mut out,
-    )
+    let mut lister = Lister::begin(rt.stdout());
+    let is_begun = input::take_lines(rt.stdin(), &mut lister, &mut block, &mut line)?;
+    lister.finish(is_begun)
 }

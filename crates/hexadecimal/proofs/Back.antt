@@ -1,4 +1,5 @@
--- What is written as hexadecimal reads back: a number from its digits, octets from theirs, and all that is written is hexadecimal.
+-- What is written as hexadecimal reads back: a number from its digits, octets from theirs, and all that is written
+-- is hexadecimal.
 -- Assumes nothing.
 use mathlib.Core.Path.{◌≡◌, refl, sym, ap, ap₂, ◌∙◌, subst}
 use mathlib.Core.Bool.{Bool, true, false, ◌&&◌, and_assoc}
@@ -20,7 +21,14 @@ digit-back d h = go (ltb d 10) refl
         rw (e, le-ltb (48 + d) 48 (omega arith), lt-ltb (48 + d) 58 (omega arith)) (omega arith)
     go false e =
         let l : 10 ≤ d = ltb-false d 10 e in
-        rw (e, le-ltb (55 + d) 48 (omega arith), le-ltb (55 + d) 58 (omega arith), le-ltb (55 + d) 65 (omega arith), lt-ltb (55 + d) 71 (omega arith)) (omega arith)
+        rw (
+          e,
+          le-ltb (55 + d) 48 (omega arith),
+          le-ltb (55 + d) 58 (omega arith),
+          le-ltb (55 + d) 65
+              (omega arith),
+          lt-ltb (55 + d) 71 (omega arith),
+        ) (omega arith)
 
 number-last : (s : List ℕ) (c y : ℕ) → number c (s ++ (y ∷ [])) ≡ 16 * number c s + digit y
 number-last [] c y = refl
@@ -43,7 +51,9 @@ octets-back [] o = refl
 octets-back (x ∷ s) o =
     let b : x < 256 = o.below 0 in
     let whole : 16 * (x / 16 % 16) + x % 16 ≡ x = omega arith in
-    let head : 16 * digit (digit_of (x / 16 % 16)) + digit (digit_of (x % 16)) ≡ x = ap₂ (λ (a d : ℕ). 16 * a + d) (digit-back (x / 16 % 16) (omega arith)) (digit-back (x % 16) (omega arith)) ∙ whole in
+    let head : 16 * digit (digit_of (x / 16 % 16)) + digit (digit_of (x % 16)) ≡ x =
+    ap₂ (λ (a d : ℕ). 16 * a + d) (digit-back (x / 16 % 16) (omega arith)) (digit-back (x % 16) (omega arith))
+    ∙ whole in
     ap₂ ◌∷◌ head (octets-back s (record { below = λ k. o.below (suc k) }))
 
 is_digit : (d : ℕ) → d < 16 → ltb (digit (digit_of d)) 16 ≡ true

@@ -9,8 +9,9 @@ use native.Mathlib.Numerals.{add-one}
 use native.Mathlib.Omega.{arith}
 use borrow.Author.Tests.{ltb-true, ltb-false, lt-ltb, le-ltb}
 use lib.Dec.{ltb}
-use lib.ListN.{length, get_or, drop, drop_of_length-le}
+use lib.ListN.{length, get_or, drop}
 use lib.Seq.{drop-cons}
+use Rattle.std.specs.List.{fold}
 use Rattle.hexadecimal.specs.Hex.{digit, is_hex, number, octets_of}
 
 pub and_left : (a b : Bool) → (a && b) ≡ true → a ≡ true
@@ -30,31 +31,25 @@ below-max a b n = go (ltb a n) (ltb b n) refl refl
     go true false e f = le-ltb (max a b) n (omega (arith, ltb-false b n f))
     go false q e f = le-ltb (max a b) n (omega (arith, ltb-false a n e))
 
-pub hex-more : (s : List ℕ) (w i : ℕ) → i < length s → (ltb w 16 && is_hex (drop i s)) ≡ is_hex s → (ltb (max w (digit (get_or s i 0))) 16 && is_hex (drop (i + 1) s)) ≡ is_hex s
-hex-more s w i h e =
-    ap (λ (b : Bool). b && is_hex (drop (i + 1) s)) (below-max w (digit (get_or s i 0)) 16)
-    ∙ and_assoc (ltb w 16) (ltb (digit (get_or s i 0)) 16) (is_hex (drop (i + 1) s))
-    ∙ ap (λ (j : ℕ). ltb w 16 && (ltb (digit (get_or s i 0)) 16 && is_hex (drop j s))) (add-one i)
-    ∙ ap (λ (t : List ℕ). ltb w 16 && is_hex t) (sym (drop-cons s i 0 h))
-    ∙ e
-
-pub hex-all : (s : List ℕ) (w i : ℕ) → length s ≤ i → (ltb w 16 && is_hex (drop i s)) ≡ is_hex s → ltb w 16 ≡ is_hex s
-hex-all s w i h e =
-    sym (ap (λ (t : List ℕ). ltb w 16 && is_hex t) (drop_of_length-le s h) ∙ and-true (ltb w 16)) ∙ e
+-- the greatest value is a digit's where every octet is a digit
+pub hex-folded : (s : List ℕ) (w : ℕ) → ltb (fold (λ (a x : ℕ). max a (digit x)) w s) 16 ≡ (ltb w 16 && is_hex s)
+hex-folded [] w = sym (and-true (ltb w 16))
+hex-folded (x ∷ s) w =
+    hex-folded s (max w (digit x))
+    ∙ ap (λ (b : Bool). b && is_hex s) (below-max w (digit x) 16)
+    ∙ and_assoc (ltb w 16) (ltb (digit x) 16) (is_hex s)
 
 pub hex-at : (s : List ℕ) (i : ℕ) → is_hex s ≡ true → i < length s → digit (get_or s i 0) < 16
 hex-at [] i e h = absurd (omega arith)
 hex-at (x ∷ s) zero e h = ltb-true (digit x) 16 (and_left (ltb (digit x) 16) (is_hex s) e)
 hex-at (x ∷ s) (suc i) e h = hex-at s i (and_right (ltb (digit x) 16) (is_hex s) e) (omega arith)
 
-pub number_more : (s : List ℕ) (c i : ℕ) → i < length s → number c (drop i s) ≡ number 0 s → number (16 * c + digit (get_or s i 0)) (drop (i + 1) s) ≡ number 0 s
+pub number_more : (s : List ℕ) (c i : ℕ) → i < length s → number c (drop i s) ≡ number 0 s
+    → number (16 * c + digit (get_or s i 0)) (drop (i + 1) s) ≡ number 0 s
 number_more s c i h e =
     ap (λ (j : ℕ). number (16 * c + digit (get_or s i 0)) (drop j s)) (add-one i)
     ∙ ap (number c) (sym (drop-cons s i 0 h))
     ∙ e
-
-pub number-all : (s : List ℕ) (c i : ℕ) → length s ≤ i → number c (drop i s) ≡ number 0 s → c ≡ number 0 s
-number-all s c i h e = sym (ap (number c) (drop_of_length-le s h)) ∙ e
 
 -- one digit more stays below one power of 16 more
 pub digit-more : (c d i : ℕ) → c < 16 ^ i → d < 16 → 16 * c + d < 16 ^ (i + 1)
@@ -71,7 +66,8 @@ octets-length [] = refl
 octets-length (x ∷ []) = refl
 octets-length (x ∷ y ∷ s) = ap suc (octets-length s) ∙ omega arith
 
-pub octets-at : (s : List ℕ) (i : ℕ) → 2 * i + 1 < length s → get_or (octets_of s) i 0 ≡ 16 * digit (get_or s (2 * i) 0) + digit (get_or s (2 * i + 1) 0)
+pub octets-at : (s : List ℕ) (i : ℕ) → 2 * i + 1 < length s
+    → get_or (octets_of s) i 0 ≡ 16 * digit (get_or s (2 * i) 0) + digit (get_or s (2 * i + 1) 0)
 octets-at [] i h = absurd (omega arith)
 octets-at (x ∷ []) i h = absurd (omega arith)
 octets-at (x ∷ y ∷ s) zero h = refl

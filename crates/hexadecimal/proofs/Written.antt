@@ -1,4 +1,4 @@
--- A part written octet by octet: from its front, and from its end.
+-- Octets written in a part from its end, and a part overwritten whole.
 -- Assumes nothing.
 use mathlib.Core.Path.{◌≡◌, refl, sym, ap, ap₂, ◌∙◌}
 use mathlib.Core.List.{List, [], ◌∷◌, ◌++◌, append_assoc}
@@ -6,25 +6,19 @@ use Prim.Native.Nat.{ℕ, zero, suc, ◌+◌, ◌/◌, ◌%◌, ◌<◌}
 use native.Mathlib.Nat.{zero-add}
 use native.Mathlib.Numerals.{add-one}
 use native.Mathlib.Omega.{arith}
-use lib.ListN.{length, get_or, take, drop, set, length-append, length-set}
-use lib.Seq.{drop-cons, take-suc-set, take-set-le, drop-set-lt, get_or-set_same, append_snoc, take-length}
+use lib.ListN.{length, take, drop, set, length-append, length-set}
+use lib.Seq.{drop-cons, take-set-le, drop-set-lt, get_or-set_same, append_snoc, take-length}
 use Rattle.octets.specs.Octets.{put}
 use Rattle.octets.proofs.Parts.{over}
-use Rattle.hexadecimal.specs.Hex.{digit_of, digits_of, hex_of}
-
-pub put_first : (k x : ℕ) (s t : List ℕ) → k < length t → put (k + 1) s (set t k x) ≡ put k (x ∷ s) t
-put_first k x s t h =
-    let m : k < k + 1 + length s = omega arith in
-    let e : k + 1 + length s ≡ k + suc (length s) = omega arith in
-    ap₂ (λ (a b : List ℕ). a ++ s ++ b) (ap (λ (j : ℕ). take j (set t k x)) (add-one k) ∙ take-suc-set t k x h) (drop-set-lt (k + 1 + length s) t k x m ∙ ap (λ (j : ℕ). drop j t) e)
-    ∙ ap (λ (a : List ℕ). a ++ drop (k + suc (length s)) t) (append_snoc (take k t) x s)
+use Rattle.hexadecimal.specs.Hex.{digit_of, digits_of}
 
 drop-set : (t : List ℕ) (m y : ℕ) → m < length t → drop m (set t m y) ≡ y ∷ drop (suc m) t
 drop-set t m y h =
     let l : m < length (set t m y) = simp length-set h in
     drop-cons (set t m y) m 0 l ∙ ap₂ ◌∷◌ (get_or-set_same t m y 0 h) (drop-set-lt (suc m) t m y (omega arith))
 
-pub put_last : (k y : ℕ) (s t : List ℕ) → k + length s < length t → put k s (set t (k + length s) y) ≡ put k (s ++ (y ∷ [])) t
+pub put_last : (k y : ℕ) (s t : List ℕ) → k + length s < length t
+    → put k s (set t (k + length s) y) ≡ put k (s ++ (y ∷ [])) t
 put_last k y s t h =
     let e : suc (k + length s) ≡ k + length (s ++ (y ∷ [])) = simp length-append (omega arith) in
     ap₂ (λ (a b : List ℕ). a ++ s ++ b) (take-set-le k t (k + length s) y (omega arith)) (drop-set t (k + length s) y h)
@@ -34,28 +28,16 @@ put_last k y s t h =
 pub digits-length : (n x : ℕ) → length (digits_of n x) ≡ n
 digits-length zero x = refl
 digits-length (suc n) x =
-    length-append (digits_of n (x / 16)) (digit_of (x % 16) ∷ []) ∙ ap (λ (m : ℕ). m + 1) (digits-length n (x / 16)) ∙ add-one n
+    length-append (digits_of n (x / 16)) (digit_of (x % 16) ∷ []) ∙ ap (λ (m : ℕ). m + 1) (digits-length n (x / 16))
+    ∙ add-one n
 
 -- overwritten whole from the front
 pub put-over : (s t : List ℕ) (i : ℕ) → i ≡ length s → over s t i ≡ put 0 s t
 put-over s t i e = rw (e, take-length, zero-add)
 
-pub digits_more : (k j x : ℕ) (t : List ℕ) → k + j < length t → put k (digits_of j (x / 16)) (set t (k + j) (digit_of (x % 16))) ≡ put k (digits_of (suc j) x) t
+pub digits_more : (k j x : ℕ) (t : List ℕ) → k + j < length t
+    → put k (digits_of j (x / 16)) (set t (k + j) (digit_of (x % 16))) ≡ put k (digits_of (suc j) x) t
 digits_more k j x t h =
     let e : j ≡ length (digits_of j (x / 16)) = sym (digits-length j (x / 16)) in
     ap (λ (m : ℕ). put k (digits_of j (x / 16)) (set t (k + m) (digit_of (x % 16)))) e
     ∙ put_last k (digit_of (x % 16)) (digits_of j (x / 16)) t (omega arith)
-
-pub hex-more : (s t : List ℕ) (k i : ℕ) → i < length s → get_or s i 0 < 256 → k + 1 < length t → put (k + 2) (hex_of (drop (i + 1) s)) (set (set t k (digit_of (get_or s i 0 / 16))) (k + 1) (digit_of (get_or s i 0 % 16))) ≡ put k (hex_of (drop i s)) t
-hex-more s t k i h o l =
-    let x : ℕ = get_or s i 0 in
-    let e : get_or s i 0 / 16 ≡ get_or s i 0 / 16 % 16 = omega arith in
-    let two : k + 2 ≡ k + 1 + 1 = omega arith in
-    let u : List ℕ = hex_of (drop (i + 1) s) in
-    let w : List ℕ = set t k (digit_of (x / 16)) in
-    let m : k + 1 < length w = simp length-set l in
-    ap (λ (j : ℕ). put j u (set w (k + 1) (digit_of (x % 16)))) two
-    ∙ put_first (k + 1) (digit_of (x % 16)) u w m
-    ∙ put_first k (digit_of (x / 16)) (digit_of (x % 16) ∷ u) t (omega arith)
-    ∙ ap₂ (λ (y j : ℕ). put k (digit_of y ∷ digit_of (x % 16) ∷ hex_of (drop j s)) t) e (add-one i)
-    ∙ ap (λ (v : List ℕ). put k (hex_of v) t) (sym (drop-cons s i 0 h))

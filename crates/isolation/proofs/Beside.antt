@@ -9,7 +9,7 @@ use Prim.Native.Nat.{ℕ, ◌<◌}
 use lib.Dec.{eqb}
 use lib.ListN.{length, get_or, set, replicate, get_or-map, length-map}
 use lib.Seq.{get_or-set_other, set-get_or, map-set_same}
-use Rattle.refusal.specs.Refusal.{session_in_use, no_free_session}
+use Rattle.refusal.specs.declared.Refusal.TheVariants.{SessionInUse, NoFreeSession}
 use Rattle.md.specs.Uri.{equal}
 use Rattle.arrival.specs.declared.Arrival.{Arrival}
 use Rattle.tables.specs.Lists.{any, lowest, grant, at_slot}
@@ -23,7 +23,8 @@ use Rattle.session_table.specs.Table.{Tables}
 use Rattle.session.specs.Listener.{free_listener}
 use Rattle.session.specs.Session.{free_session, is_free, waits_for_reply, owes_confirm, is_with_user, waits_for_confirm, has, code_of, expired}
 use Rattle.session.specs.Session.{can_take, answered, is_reply}
-use Rattle.session_table.specs.Table.{Call, listen, unlisten, calling, telegram, reply, confirm, time_check, Answer, opened, requested, replied, confirmed, codes, refused_plain, all_in_use, Heard, Judged, refusal, passed, judged, Kind, mn, mr, mp, mq, mc, me, kind_of, opening, taken_at, taking, ended, owing, at_session, with_sessions, notifying, requesting, arriving, hearing, step, empty_tables}
+use Rattle.session.specs.declared.Kind.TheVariants.{Mn, Mr, Mp, Mq, Mc, Me}
+use Rattle.session_table.specs.Table.{Call, listen, unlisten, calling, telegram, reply, confirm, time_check, Answer, opened, requested, replied, confirmed, codes, refused_plain, all_in_use, Heard, Judged, refusal, passed, judged, Kind, kind_of, opening, taken_at, taking, ended, owing, at_session, with_sessions, notifying, requesting, arriving, hearing, step, empty_tables}
 use Rattle.isolation.specs.Alone.{numbered}
 use Rattle.isolation.specs.Beside.{Fed, arrived, replying, confirming, checked, own, Slot, free, held, single, alone, only, said, feed, Slots, session_of, joined, vacant, is_of, opening_beside, taking_beside, requesting_beside, heard_beside, arriving_beside, code_in, beside, empty_slots, SideBySide}
 use Rattle.isolation.proofs.Identifiers.{and_left, equal-same}
@@ -41,17 +42,17 @@ record Takes (kind : Kind) (h : Heard) : Type 0 where
 
 -- an Mn, an Mr, or one that a session takes
 data Sorted (kind : Kind) (h : Heard) : Type 0 where
-  notice : kind ≡ mn → Sorted kind h
-  request : kind ≡ mr → Sorted kind h
+  notice : kind ≡ Mn → Sorted kind h
+  request : kind ≡ Mr → Sorted kind h
   takes : Takes kind h → Sorted kind h
 
 sorted : (kind : Kind) (h : Heard) → Sorted kind h
-sorted mn h = notice refl
-sorted mr h = request refl
-sorted mp h = takes (record { in' = waits_for_reply; to = ended; kept = λ x b. kept-ended x; table = λ o xs. refl; model = λ o f ss. refl })
-sorted mq h = takes (record { in' = waits_for_reply; to = owing h; kept = kept-owing h; table = λ o xs. refl; model = λ o f ss. refl })
-sorted mc h = takes (record { in' = waits_for_confirm; to = ended; kept = λ x b. kept-ended x; table = λ o xs. refl; model = λ o f ss. refl })
-sorted me h = takes (record { in' = waits_for_reply; to = ended; kept = λ x b. kept-ended x; table = λ o xs. refl; model = λ o f ss. refl })
+sorted Mn h = notice refl
+sorted Mr h = request refl
+sorted Mp h = takes (record { in' = waits_for_reply; to = ended; kept = λ x b. kept-ended x; table = λ o xs. refl; model = λ o f ss. refl })
+sorted Mq h = takes (record { in' = waits_for_reply; to = owing h; kept = kept-owing h; table = λ o xs. refl; model = λ o f ss. refl })
+sorted Mc h = takes (record { in' = waits_for_confirm; to = ended; kept = λ x b. kept-ended x; table = λ o xs. refl; model = λ o f ss. refl })
+sorted Me h = takes (record { in' = waits_for_reply; to = ended; kept = λ x b. kept-ended x; table = λ o xs. refl; model = λ o f ss. refl })
 
 -- ---- one session, the table's only one
 
@@ -202,7 +203,7 @@ opening-is given full id state ss g =
       any-each session_of free (has id) (is_of id) ss (λ j. (g.well j).of_is id),
       lowest-each session_of free (λ x. is_free x.state) vacant ss (λ j. (g.well j).vacant-is),
     )
-    (grant-map session_of (cond (any (is_of id) ss) (some (refused_plain session_in_use)) none) (lowest vacant ss) full given (held id state []) ss)
+    (grant-map session_of (cond (any (is_of id) ss) (some (refused_plain SessionInUse)) none) (lowest vacant ss) full given (held id state []) ss)
 
 -- a call that names slot k
 named-is : (f : Fed) (k : ℕ) (ss : List Slot) → Good ss
@@ -299,7 +300,7 @@ unfolding step beside
 agrees (listen com_id senders u) s g = refl
 agrees (unlisten k) s g = refl
 agrees (calling id timeout time) s g =
-    ap (with_sessions s.listeners) (opening-is opened (refused_plain no_free_session) id (WaitingForReply (record { start = time; timeout = timeout })) s.slots g)
+    ap (with_sessions s.listeners) (opening-is opened (refused_plain NoFreeSession) id (WaitingForReply (record { start = time; timeout = timeout })) s.slots g)
 agrees (telegram a d) s g = go (judged a d) refl
   where
     go : (j : Judged) → judged a d ≡ j
@@ -362,7 +363,7 @@ unfolding grant
 good-opening given full id state ss b g = go (any (is_of id) ss) refl (lowest vacant ss)
   where
     go : (c : Bool) → any (is_of id) ss ≡ c → (o : Option ℕ)
-        → Good (grant (cond c (some (refused_plain session_in_use)) none) o full given (held id state []) ss).after
+        → Good (grant (cond c (some (refused_plain SessionInUse)) none) o full given (held id state []) ss).after
     go true e o = g
     go false e none = g
     go false e (some k) = good-set ss k (held id state []) g (well-new id state b) (λ j m i q. new j i q (equal id i) refl)
@@ -393,7 +394,7 @@ unfolding beside at_slot
 keeps (listen com_id senders u) s g = g
 keeps (unlisten k) s g = g
 keeps (calling id timeout time) s g =
-    good-opening opened (refused_plain no_free_session) id (WaitingForReply (record { start = time; timeout = timeout })) s.slots refl g
+    good-opening opened (refused_plain NoFreeSession) id (WaitingForReply (record { start = time; timeout = timeout })) s.slots refl g
 keeps (telegram a d) s g = go (judged a d)
   where
     go : (j : Judged) → Good (arriving_beside a d j s).after.slots

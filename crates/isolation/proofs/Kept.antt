@@ -7,7 +7,7 @@ use mathlib.Core.Bool.{Bool, true, false, cond, not, ◌&&◌, false≢true}
 use mathlib.Core.List.{List}
 use Prim.Native.Nat.{ℕ}
 use lib.Dec.{eqb}
-use Rattle.refusal.specs.Refusal.{no_slot, no_session}
+use Rattle.refusal.specs.declared.Refusal.TheVariants.{NoSlot, NoSession}
 use Rattle.md.specs.Uri.{equal}
 use Rattle.tables.specs.Trace.{Outcome}
 use Rattle.session.specs.declared.Session.{Session}
@@ -75,7 +75,7 @@ unfolding Kept
 kept_at in' done f x k = go (is_free x.state) (in' x.state) k
   where
     go : (b c : Bool) → (b ≡ false → (f x ≡ free_session) ⊎ (((f x).id ≡ x.id) × (is_free (f x).state ≡ is_free x.state)))
-        → let o = cond b (record { answer = refused_plain no_slot; after = x }) (cond {A = Outcome Answer Session} c (record { answer = done; after = f x }) (record { answer = refused_plain no_session; after = x })) in
+        → let o = cond b (record { answer = refused_plain NoSlot; after = x }) (cond {A = Outcome Answer Session} c (record { answer = done; after = f x }) (record { answer = refused_plain NoSession; after = x })) in
         (o.after ≡ free_session) ⊎ ((o.after.id ≡ x.id) × (is_free o.after.state ≡ is_free x.state))
     go true c g = inr (refl, refl)
     go false true g = g refl

@@ -6,13 +6,16 @@ use mathlib.Core.Logic.{◌≢◌, ◌⊎◌, inl, inr}
 use mathlib.Core.Bool.{Bool, true, false, cond, not, false≢true}
 use mathlib.Core.List.{List, [], ◌∷◌, map}
 use mathlib.Core.Option.{Option, none, some}
-use Prim.Native.Nat.{ℕ, zero, suc, ◌<◌}
+use Prim.Native.Nat.{ℕ, ◌<◌}
 use native.Mathlib.Omega.{arith}
 use lib.Dec.{eqb}
 use lib.IntN.{ℤ, negsuc}
 use lib.ListN.{length, get_or, set, length-set, length-map, get_or-map}
 use lib.Seq.{get_or-set_same, get_or-set_other}
-use Rattle.refusal.specs.Refusal.{first_of, session_in_use, no_slot, no_free_slot, no_session, no_free_session}
+use Rattle.std.specs.Prelude.{Ok, Err, Result}
+use Rattle.refusal.specs.Refusal.{first_of}
+use Rattle.refusal.specs.declared.Refusal.{Refusal}
+use Rattle.refusal.specs.declared.Refusal.TheVariants.{SessionInUse, NoSlot, NoFreeSlot, NoSession, NoFreeSession}
 use Rattle.md.specs.Md.{session_id_of}
 use Rattle.md.specs.Uri.{equal}
 use Rattle.arrival.specs.declared.Arrival.{Arrival}
@@ -29,7 +32,8 @@ use Rattle.session_table.specs.Table.{Tables}
 use Rattle.session.specs.Listener as Listeners
 use Rattle.session.specs.Session.{free_session, is_free, waits_for_reply, owes_confirm, is_with_user, waits_for_confirm, has, code_of, expired}
 use Rattle.session.specs.Session.{can_take, answered, is_reply}
-use Rattle.session_table.specs.Table.{Call, listen, unlisten, calling, telegram, reply, confirm, time_check, Answer, listening, freed, opened, requested, replied, confirmed, refused, refused_plain, listen_checks, earlier, unlistened, Heard, Judged, refusal, passed, judged, judged_by, heard_of, md_checks, Kind, mn, mr, mp, mq, mc, me, kind_of, opening, taken_at, taking, ended, owing, at_session, with_sessions, notifying, requesting, arriving, step, empty_tables}
+use Rattle.session.specs.declared.Kind.TheVariants.{Mn, Mr, Mp, Mq, Mc, Me}
+use Rattle.session_table.specs.Table.{Call, listen, unlisten, calling, telegram, reply, confirm, time_check, Answer, listening, freed, opened, requested, replied, confirmed, refused, refused_plain, listen_checks, earlier, unlistened, Heard, Judged, refusal, passed, judged, judged_by, heard_of, md_checks, Kind, kind_of, opening, taken_at, taking, ended, owing, at_session, with_sessions, notifying, requesting, arriving, step, empty_tables}
 use Rattle.isolation.specs.Alone.{slot_at, fed, heard, heard_alone, numbered, session_watch, opened_at, identifier, concerns, own_telegram, OneSession}
 use Rattle.isolation.proofs.Identifiers.{and_left, equal-same, equal-refl}
 use Rattle.isolation.proofs.Kept.{Kept, kept-own, kept-other, has-busy, same_id, kept-ended, kept-owing, kept-answered, kept_at, kept-expired}
@@ -77,7 +81,7 @@ module _ (k : ℕ) (id : List ℕ) where
   unfolding grant has
   opening-leaves given full i state xs b h =
       record {
-        slot = grant-leaves is_free_session free_session (cond (any (has i) xs) (some (refused_plain session_in_use)) none) full given y xs k (has-busy id (get_or xs k free_session) h.own) (lowest is_free_session xs) refl;
+        slot = grant-leaves is_free_session free_session (cond (any (has i) xs) (some (refused_plain SessionInUse)) none) full given y xs k (has-busy id (get_or xs k free_session) h.own) (lowest is_free_session xs) refl;
         still = go (any (has i) xs) refl (lowest is_free_session xs) refl;
       }
     where
@@ -85,7 +89,7 @@ module _ (k : ℕ) (id : List ℕ) where
       y = record { id = i; state = state }
 
       go : (c : Bool) → any (has i) xs ≡ c → (o : Option ℕ) → lowest is_free_session xs ≡ o
-          → Has k id (grant (cond c (some (refused_plain session_in_use)) none) o full given y xs).after
+          → Has k id (grant (cond c (some (refused_plain SessionInUse)) none) o full given y xs).after
       go true e o l = h
       go false e none l = h
       go false e (some j) l =
@@ -225,12 +229,12 @@ module _ (k : ℕ) (id : List ℕ) where
               (rw (arrives t kind q, same (match t) t.sessions) (theirs in' f hd.id hd.status t.sessions h b kept (lowest (can_take in' hd.id) t.sessions) refl))
 
     by_kind : (t : Tables) → Held t → (kind : Kind) → kind_of hd.type ≡ kind → Follows (session_watch k id) Held c t
-    by_kind t h mn q = by-leaving t mn q refl (notifying-leaves (match t) t.sessions h)
-    by_kind t h mr q = by-leaving t mr q refl (requesting-leaves (match t) hd t.sessions h)
-    by_kind t h mp q = by-taking waits_for_reply ended (λ x b. kept-ended x) t h mp q refl (λ o xs. refl)
-    by_kind t h mq q = by-taking waits_for_reply (owing hd) (kept-owing hd) t h mq q refl (λ o xs. refl)
-    by_kind t h mc q = by-taking waits_for_confirm ended (λ x b. kept-ended x) t h mc q refl (λ o xs. refl)
-    by_kind t h me q = by-taking waits_for_reply ended (λ x b. kept-ended x) t h me q refl (λ o xs. refl)
+    by_kind t h Mn q = by-leaving t Mn q refl (notifying-leaves (match t) t.sessions h)
+    by_kind t h Mr q = by-leaving t Mr q refl (requesting-leaves (match t) hd t.sessions h)
+    by_kind t h Mp q = by-taking waits_for_reply ended (λ x b. kept-ended x) t h Mp q refl (λ o xs. refl)
+    by_kind t h Mq q = by-taking waits_for_reply (owing hd) (kept-owing hd) t h Mq q refl (λ o xs. refl)
+    by_kind t h Mc q = by-taking waits_for_confirm ended (λ x b. kept-ended x) t h Mc q refl (λ o xs. refl)
+    by_kind t h Me q = by-taking waits_for_reply ended (λ x b. kept-ended x) t h Me q refl (λ o xs. refl)
 
   -- ---- a call that names a session
 
@@ -334,33 +338,33 @@ heard-id : (a : Arrival) (d : List ℕ) (hd : Heard) → judged a d ≡ passed h
 unfolding judged
 heard-id a d hd e = by (first_of (md_checks a d)) e
   where
-    by : (v : ℕ) → judged_by v (heard_of a d) ≡ passed hd → hd.id ≡ session_id_of d
-    by zero q = let z : heard_of a d ≡ hd = cc in sym (ap (λ h. h.id) z)
-    by (suc v) q = let z : ◌≡◌ {A = ℕ} 0 1 = cc in absurd (omega arith)
+    by : (v : Result (Unit {0}) Refusal) → judged_by v (heard_of a d) ≡ passed hd → hd.id ≡ session_id_of d
+    by (Ok v) q = let z : heard_of a d ≡ hd = cc in sym (ap (λ h. h.id) z)
+    by (Err r) q = grind arith
 
 -- answers that open nothing
 listen-none : (e : Option Answer) (o : Option ℕ) (l : Listener) (ls : List Listener) → ((a : Answer) → e ≡ some a → opened_at a ≡ none)
-    → opened_at (grant e o (refused_plain no_free_slot) listening l ls).answer ≡ none
+    → opened_at (grant e o (refused_plain NoFreeSlot) listening l ls).answer ≡ none
 unfolding grant
 listen-none (some a) o l ls f = f a refl
 listen-none none none l ls f = refl
 listen-none none (some k) l ls f = refl
 
-earlier-none : (v : ℕ) (a : Answer) → earlier v ≡ some a → opened_at a ≡ none
-earlier-none zero a e = let z : ◌≡◌ {A = ℕ} 0 1 = cc in absurd (omega arith)
-earlier-none (suc r) a e = let z : refused_plain (suc r) ≡ a = cc in rw (← z) refl
+earlier-none : (v : Result (Unit {0}) Refusal) (a : Answer) → earlier v ≡ some a → opened_at a ≡ none
+earlier-none (Ok v) a e = grind arith
+earlier-none (Err r) a e = let z : refused_plain r ≡ a = cc in rw (← z) refl
 
 unlisten-none : (l : Listener) → opened_at (unlistened l).answer ≡ none
 unlisten-none l = by l.used
   where
-    by : (b : Bool) → opened_at (cond {A = Outcome Answer Listener} b (record { answer = freed; after = Listeners.free_listener }) (record { answer = refused_plain no_slot; after = l })).answer ≡ none
+    by : (b : Bool) → opened_at (cond {A = Outcome Answer Listener} b (record { answer = freed; after = Listeners.free_listener }) (record { answer = refused_plain NoSlot; after = l })).answer ≡ none
     by true = refl
     by false = refl
 
 at_none : (in' : SessionState → Bool) (done : Answer) (f : Session → Session) (x : Session) → opened_at done ≡ none → opened_at (at_session in' done f x).answer ≡ none
 at_none in' done f x n = by (is_free x.state) (in' x.state)
   where
-    by : (b c : Bool) → opened_at (cond {A = Outcome Answer Session} b (record { answer = refused_plain no_slot; after = x }) (cond c (record { answer = done; after = f x }) (record { answer = refused_plain no_session; after = x }))).answer ≡ none
+    by : (b c : Bool) → opened_at (cond {A = Outcome Answer Session} b (record { answer = refused_plain NoSlot; after = x }) (cond c (record { answer = done; after = f x }) (record { answer = refused_plain NoSession; after = x }))).answer ≡ none
     by true c = refl
     by false true = n
     by false false = refl
@@ -373,19 +377,19 @@ taking-none (some k) f status xs = refl
 opens-telegram : (a : Arrival) (d : List ℕ) (hd : Heard) → judged a d ≡ passed hd → (t : Tables) (k : ℕ) (kind : Kind) → kind_of hd.type ≡ kind
     → opened_at (step (telegram a d) t).answer ≡ some k → Opens (telegram a d) t k
 unfolding step
-opens-telegram a d hd e t k mn q o = by (lowest (Listeners.hears hd.com_id hd.sender hd.destination) t.listeners) (rw (e, q) at o)
+opens-telegram a d hd e t k Mn q o = by (lowest (Listeners.hears hd.com_id hd.sender hd.destination) t.listeners) (rw (e, q) at o)
   where
     by : (l : Option ℕ) → opened_at (notifying l t.sessions).answer ≡ some k → Opens (telegram a d) t k
     by none z = apart k z
     by (some l) z = apart k z
-opens-telegram a d hd e t k mr q o = by (lowest (Listeners.hears hd.com_id hd.sender hd.destination) t.listeners) refl (rw (e, q) at o)
+opens-telegram a d hd e t k Mr q o = by (lowest (Listeners.hears hd.com_id hd.sender hd.destination) t.listeners) refl (rw (e, q) at o)
   where
     by : (l : Option ℕ) → lowest (Listeners.hears hd.com_id hd.sender hd.destination) t.listeners ≡ l → opened_at (requesting l hd t.sessions).answer ≡ some k → Opens (telegram a d) t k
     by none m z = apart k z
     by (some l) m z =
         record {
           given = requested l;
-          full = refused no_free_session (negsuc 3);
+          full = refused NoFreeSession (negsuc 3);
           id = hd.id;
           state = WithUser (record { start = hd.time; timeout = hd.timeout });
           id-is = heard-id a d hd e;
@@ -395,10 +399,10 @@ opens-telegram a d hd e t k mr q o = by (lowest (Listeners.hears hd.com_id hd.se
           none-full = refl;
           step_is = λ xs. rw (e, q, m) refl;
         }
-opens-telegram a d hd e t k mp q o = apart k (sym (taking-none (lowest (can_take waits_for_reply hd.id) t.sessions) ended hd.status t.sessions) ∙ (rw (e, q) at o))
-opens-telegram a d hd e t k mq q o = apart k (sym (taking-none (lowest (can_take waits_for_reply hd.id) t.sessions) (owing hd) hd.status t.sessions) ∙ (rw (e, q) at o))
-opens-telegram a d hd e t k mc q o = apart k (sym (taking-none (lowest (can_take waits_for_confirm hd.id) t.sessions) ended hd.status t.sessions) ∙ (rw (e, q) at o))
-opens-telegram a d hd e t k me q o = apart k (sym (taking-none (lowest (can_take waits_for_reply hd.id) t.sessions) ended hd.status t.sessions) ∙ (rw (e, q) at o))
+opens-telegram a d hd e t k Mp q o = apart k (sym (taking-none (lowest (can_take waits_for_reply hd.id) t.sessions) ended hd.status t.sessions) ∙ (rw (e, q) at o))
+opens-telegram a d hd e t k Mq q o = apart k (sym (taking-none (lowest (can_take waits_for_reply hd.id) t.sessions) (owing hd) hd.status t.sessions) ∙ (rw (e, q) at o))
+opens-telegram a d hd e t k Mc q o = apart k (sym (taking-none (lowest (can_take waits_for_confirm hd.id) t.sessions) ended hd.status t.sessions) ∙ (rw (e, q) at o))
+opens-telegram a d hd e t k Me q o = apart k (sym (taking-none (lowest (can_take waits_for_reply hd.id) t.sessions) ended hd.status t.sessions) ∙ (rw (e, q) at o))
 
 opens : (c : Call) (t : Tables) (k : ℕ) → opened_at (step c t).answer ≡ some k → Opens c t k
 unfolding step at_slot
@@ -411,7 +415,7 @@ opens (unlisten j) t k o = apart k (sym (unlisten-none (get_or t.listeners j Lis
 opens (calling i timeout time) t k o =
     record {
       given = opened;
-      full = refused_plain no_free_session;
+      full = refused_plain NoFreeSession;
       id = i;
       state = WaitingForReply (record { start = time; timeout = timeout });
       id-is = refl;
@@ -450,7 +454,7 @@ given-at given full i state xs k n f o = by (any (has i) xs) refl (lowest is_fre
     y = record { id = i; state = state }
 
     by : (b : Bool) → any (has i) xs ≡ b → (l : Option ℕ) → lowest is_free_session xs ≡ l
-        → opened_at (grant (cond b (some (refused_plain session_in_use)) none) l full given y xs).answer ≡ some k → Given given full i state xs k
+        → opened_at (grant (cond b (some (refused_plain SessionInUse)) none) l full given y xs).answer ≡ some k → Given given full i state xs k
     by true e l q z = apart k z
     by false e none q z = apart k (sym f ∙ z)
     by false e (some j) q z =

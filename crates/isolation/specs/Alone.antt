@@ -7,7 +7,8 @@ use Rattle.tables.specs.Trace.{run}
 use Rattle.tables.specs.Watch.{Watch, watched, told, watched_alone}
 use Rattle.session_table.specs.Table.{Tables}
 use Rattle.session.specs.Session.{free_session, is_free}
-use Rattle.session_table.specs.Table.{Call, listen, unlisten, calling, telegram, reply, confirm, time_check, Answer, listening, freed, opened, notified, requested, taken, replied, confirmed, codes, refused, Judged, refusal, passed, judged, Kind, mn, mr, mp, mq, mc, me, kind_of, step, empty_tables}
+use Rattle.session.specs.declared.Kind.TheVariants.{Mn, Mr, Mp, Mq, Mc, Me}
+use Rattle.session_table.specs.Table.{Call, listen, unlisten, calling, telegram, reply, confirm, time_check, Answer, listening, freed, opened, notified, requested, taken, replied, confirmed, codes, refused, Judged, refusal, passed, judged, Kind, kind_of, step, empty_tables}
 
 -- the session of slot k as a table's only session; no listener is left
 abbrev pub slot_at : ℕ → Tables → Tables
@@ -18,12 +19,12 @@ unused t = is_free (get_or t.sessions 0 free_session).state
 
 -- replies and confirms concern a session that is open
 abbrev pub concerns : Kind → Bool
-concerns mn = false
-concerns mr = false
-concerns mp = true
-concerns mq = true
-concerns mc = true
-concerns me = true
+concerns Mn = false
+concerns Mr = false
+concerns Mp = true
+concerns Mq = true
+concerns Mc = true
+concerns Me = true
 
 -- a telegram of the session's identifier that passed its checks
 abbrev pub own_telegram : List ℕ → Judged → Bool

@@ -1,7 +1,7 @@
 -- Demand 3 for sessions: the model made of sessions alone, side by side, and the statement over every list of calls.
 use Rattle.std.specs.Prelude.{◌≡◌, ℕ, Bool, true, false, cond, List, [], ◌∷◌, map, ℤ, pos, get_or, replicate}
 use Rattle.std.proofs.Math.Option.{Option, none, some}
-use Rattle.refusal.specs.Refusal.{no_free_session, session_in_use, no_session}
+use Rattle.refusal.specs.declared.Refusal.TheVariants.{NoFreeSession, SessionInUse, NoSession}
 use Rattle.arrival.specs.declared.Arrival.{Arrival}
 use Rattle.md.specs.Uri.{equal}
 use Rattle.tables.specs.Trace.{Outcome, trace}
@@ -13,7 +13,8 @@ use Rattle.session.specs.declared.SessionState.TheVariants.{WaitingForReply, Wit
 use Rattle.session_table.specs.Table.{Tables}
 use Rattle.session.specs.Listener.{free_listener}
 use Rattle.session.specs.Session.{free_session}
-use Rattle.session_table.specs.Table.{Call, listen, unlisten, calling, telegram, reply, confirm, time_check, Answer, listening, freed, opened, notified, requested, taken, replied, confirmed, codes, refused, refused_plain, Heard, Judged, refusal, passed, judged, Kind, mn, mr, mp, mq, mc, me, kind_of, notifying, no_listener, all_in_use, hearing, step, empty_tables}
+use Rattle.session.specs.declared.Kind.TheVariants.{Mn, Mr, Mp, Mq, Mc, Me}
+use Rattle.session_table.specs.Table.{Call, listen, unlisten, calling, telegram, reply, confirm, time_check, Answer, listening, freed, opened, notified, requested, taken, replied, confirmed, codes, refused, refused_plain, Heard, Judged, refusal, passed, judged, Kind, kind_of, notifying, no_listener, all_in_use, hearing, step, empty_tables}
 use Rattle.isolation.specs.Alone.{unused, numbered}
 
 -- what a session alone is fed after its opening: a call, but for the slot's number
@@ -82,11 +83,11 @@ is_of id (held i state fs) = equal i id
 -- 17: the identifier was opened and has not ended; 18: no slot is free; else the lowest free slot
 abbrev pub opening_beside : (ℕ → Answer) → Answer → List ℕ → SessionState → List Slot → Outcome Answer (List Slot)
 opening_beside given full id state ss =
-    grant (cond (any (is_of id) ss) (some (refused_plain session_in_use)) none) (lowest vacant ss) full given (held id state []) ss
+    grant (cond (any (is_of id) ss) (some (refused_plain SessionInUse)) none) (lowest vacant ss) full given (held id state []) ss
 
 -- a reply or a confirm goes to the session of its identifier and to no other; 19 where there is none
 abbrev pub taking_beside : Option ℕ → Fed → List Slot → Outcome Answer (List Slot)
-taking_beside none f ss = record { answer = refused_plain no_session; after = ss }
+taking_beside none f ss = record { answer = refused_plain NoSession; after = ss }
 taking_beside (some k) f ss = at_slot free (λ s. record { answer = numbered k (said f s); after = feed f s }) k ss
 
 -- an Mr meets the listeners as the calls before it leave them
@@ -95,12 +96,12 @@ requesting_beside none h ss = record { answer = no_listener; after = ss }
 requesting_beside (some l) h ss = opening_beside (requested l) all_in_use h.id (WithUser (record { start = h.time; timeout = h.timeout })) ss
 
 abbrev pub heard_beside : Kind → Option ℕ → Heard → Fed → List Slot → Outcome Answer (List Slot)
-heard_beside mn l h f ss = record { answer = (notifying l []).answer; after = ss }
-heard_beside mr l h f ss = requesting_beside l h ss
-heard_beside mp l h f ss = taking_beside (lowest (is_of h.id) ss) f ss
-heard_beside mq l h f ss = taking_beside (lowest (is_of h.id) ss) f ss
-heard_beside mc l h f ss = taking_beside (lowest (is_of h.id) ss) f ss
-heard_beside me l h f ss = taking_beside (lowest (is_of h.id) ss) f ss
+heard_beside Mn l h f ss = record { answer = (notifying l []).answer; after = ss }
+heard_beside Mr l h f ss = requesting_beside l h ss
+heard_beside Mp l h f ss = taking_beside (lowest (is_of h.id) ss) f ss
+heard_beside Mq l h f ss = taking_beside (lowest (is_of h.id) ss) f ss
+heard_beside Mc l h f ss = taking_beside (lowest (is_of h.id) ss) f ss
+heard_beside Me l h f ss = taking_beside (lowest (is_of h.id) ss) f ss
 
 abbrev pub with_slots : List Listener → Outcome Answer (List Slot) → Outcome Answer Slots
 with_slots ls o = record { answer = o.answer; after = record { listeners = ls; slots = o.after } }
@@ -138,7 +139,7 @@ unfoldable pub beside : Call → Slots → Outcome Answer Slots
 beside (listen com_id senders u) s = listeners_beside (listen com_id senders u) s
 beside (unlisten k) s = listeners_beside (unlisten k) s
 beside (calling id timeout time) s =
-    with_slots s.listeners (opening_beside opened (refused_plain no_free_session) id (WaitingForReply (record { start = time; timeout = timeout })) s.slots)
+    with_slots s.listeners (opening_beside opened (refused_plain NoFreeSession) id (WaitingForReply (record { start = time; timeout = timeout })) s.slots)
 beside (telegram a d) s = arriving_beside a d (judged a d) s
 beside (reply k type timeout time) s = named_beside (replying type timeout time) k s
 beside (confirm k) s = named_beside confirming k s

@@ -1,174 +1,123 @@
-// The calls over lent memory, for programs that hold their tables by value: each lends the first n of 40 slots.
+// The calls over lent memory, for programs that hold their tables by value: each is lent the first of forty slots.
 #![tactic(auto)]
 
-ghost use Rattle.std.specs.Prelude.{◌≡◌, [], ◌∷◌, take};
+ghost use Rattle.std.specs.Prelude.{◌≡◌, [], ◌∷◌, min, take};
 ghost use Rattle.subscription_table.specs.Table as table;
-ghost use Rattle.subscription_decisions.specs.Calls.{meaning};
+ghost use Rattle.subscription_decisions.specs.Calls.{told};
 ghost use Rattle.subscriptions.specs.Read.{Reads};
 ghost use Rattle.subscriptions.specs.Receive as arriving;
-ghost use Rattle.lent.specs.Lent.{lent_slots, Serves, Receives};
+ghost use Rattle.lent.specs.Lent.{Serves, Receives};
 
 use arrival::Arrival;
+use refusal::Refusal;
 use statistics::Statistics;
 use subscription::{Filter, Subscription};
-use subscription_decisions::{Answer, Reading};
+use subscription_decisions::View;
+use subscriptions::Table;
 
-// The slots after a call, and its answer.
+// The records, in fixed memory, and how many of them and how many octets of the store each call is lent. Each call cuts
+// both anew: a function that hands out a `Table` over two cuts gets no proof of what is left when it ends.
 #[derive(Clone, Copy)]
-pub struct Called {
-    pub slots: [Subscription; 40],
-    pub answer: Answer,
+pub struct Slots {
+    pub records: [Subscription; 40],
+    pub lent: usize,
+    pub octets: usize,
 }
 
-// The slots and the statistics after a telegram, and its answer.
-#[derive(Clone, Copy)]
-pub struct Received {
-    pub slots: [Subscription; 40],
-    pub statistics: Statistics,
-    pub answer: Answer,
-}
-
-// A table of one slot and the statistics after a telegram, and its answer.
-#[derive(Clone, Copy)]
-pub struct One {
-    pub slots: [Subscription; 1],
-    pub statistics: Statistics,
-    pub answer: Answer,
-}
-
-// The slot and the statistics after a telegram, and its answer.
-#[derive(Clone, Copy)]
-pub struct Alone {
-    pub slot: Subscription,
-    pub statistics: Statistics,
-    pub answer: Answer,
-}
-
-// How many slots are lent: more than 40 is read as 40.
-fn at_most(n: usize) -> usize
-    ensures { result ≡ lent_slots n }
-{
-    if 40 < n {
-        return 40;
+impl Slots {
+    // How many slots are lent: more than 40 is read as 40.
+    fn count(&self) -> usize
+        ensures { result ≡ min self.now.lent 40 }
+    {
+        self.lent.min(40)
     }
-    n
-}
 
-// Subscribing.
-pub fn subscribe(
-    slots: [Subscription; 40],
-    n: usize,
-    store: &mut [u8],
-    f: Filter,
-    timeout: u32,
-    behaviour: u8,
-    time: u64,
-) -> Called
-    ensures { Serves (table.subscribe (record { filter = f; timeout = timeout; behaviour = behaviour }) time) n slots store.old (meaning result.answer) result.slots store.new }
-{
-    let m = at_most(n);
-    let mut t = slots;
-    let answer = subscriptions::subscribe(&mut t[..m], store, f, timeout, behaviour, time);
-    Called {
-        slots: t,
-        answer: answer,
+    // Subscribing.
+    pub fn subscribe(
+        &mut self,
+        store: &mut [u8],
+        f: Filter,
+        timeout: u32,
+        behaviour: u8,
+        time: u64,
+    ) -> Result<usize, Refusal>
+        ensures { Serves (table.subscribe (record { filter = f; timeout = timeout; behaviour = behaviour }) time)
+            self.old store.old (told table.granted result) self.new store.new }
+    {
+        let n = self.count();
+        let m = self.octets.min(store.len());
+        let (slots, _) = self.records[..].split_at_mut(n);
+        let (store, _) = store.split_at_mut(m);
+        Table { slots, store }.subscribe(f, timeout, behaviour, time)
     }
-}
 
-// Unsubscribing.
-pub fn unsubscribe(slots: [Subscription; 40], n: usize, store: &mut [u8], k: usize) -> Called
-    ensures { Serves (table.unsubscribe k) n slots store.old (meaning result.answer) result.slots store.new }
-{
-    let m = at_most(n);
-    let mut t = slots;
-    let answer = subscriptions::unsubscribe(&mut t[..m], store, k);
-    Called {
-        slots: t,
-        answer: answer,
+    // Unsubscribing.
+    pub fn unsubscribe(&mut self, store: &mut [u8], k: usize) -> Result<(), Refusal>
+        ensures { Serves (table.unsubscribe k) self.old store.old (told (λ _. table.freed) result) self.new store.new }
+    {
+        let n = self.count();
+        let m = self.octets.min(store.len());
+        let (slots, _) = self.records[..].split_at_mut(n);
+        let (store, _) = store.split_at_mut(m);
+        Table { slots, store }.unsubscribe(k)
     }
-}
 
-// The time check.
-pub fn time_check(slots: [Subscription; 40], n: usize, store: &mut [u8], time: u64) -> Called
-    ensures { Serves (table.time_check time) n slots store.old (meaning result.answer) result.slots store.new }
-{
-    let m = at_most(n);
-    let mut t = slots;
-    let answer = subscriptions::time_check(&mut t[..m], store, time);
-    Called {
-        slots: t,
-        answer: answer,
+    // The time check.
+    pub fn time_check(&mut self, store: &mut [u8], time: u64) -> Result<usize, Refusal>
+        ensures { Serves (table.time_check time) self.old store.old (told table.marked result) self.new store.new }
+    {
+        let n = self.count();
+        let m = self.octets.min(store.len());
+        let (slots, _) = self.records[..].split_at_mut(n);
+        let (store, _) = store.split_at_mut(m);
+        Table { slots, store }.time_check(time)
     }
-}
 
-// Reading slot k.
-pub fn read(slots: [Subscription; 40], n: usize, store: &[u8], k: usize) -> Reading
-    ensures { Reads k (take n slots) store.now result }
-{
-    let m = at_most(n);
-    let t = slots;
-    subscriptions::read(&t[..m], store, k)
-}
-
-// A PD datagram arrives.
-pub fn receive(
-    slots: [Subscription; 40],
-    n: usize,
-    store: &mut [u8],
-    statistics: Statistics,
-    a: Arrival,
-    datagram: &[u8],
-) -> Received
-    ensures { Receives a datagram.now n slots store.old statistics (meaning result.answer) result.slots store.new result.statistics }
-{
-    let m = at_most(n);
-    let mut t = slots;
-    let mut s = statistics;
-    let answer = subscriptions::receive(&mut t[..m], store, &mut s, a, datagram);
-    Received {
-        slots: t,
-        statistics: s,
-        answer: answer,
+    // A PD datagram arrives.
+    pub fn receive(
+        &mut self,
+        store: &mut [u8],
+        statistics: &mut Statistics,
+        a: Arrival,
+        datagram: &[u8],
+    ) -> Result<usize, Refusal>
+        ensures { Receives a datagram.now self.old store.old statistics.old (told table.delivered result)
+            self.new store.new statistics.new }
+    {
+        let n = self.count();
+        let m = self.octets.min(store.len());
+        let (slots, _) = self.records[..].split_at_mut(n);
+        let (store, _) = store.split_at_mut(m);
+        Table { slots, store }.receive(statistics, a, datagram)
     }
-}
 
-// A PD datagram arrives at a table of one slot.
-fn receive_one(
-    slots: [Subscription; 1],
-    store: &mut [u8],
-    statistics: Statistics,
-    a: Arrival,
-    datagram: &[u8],
-) -> One
-    ensures { arriving.Receives a datagram.now slots store.old statistics (meaning result.answer) result.slots store.new result.statistics }
-{
-    let mut t = slots;
-    let mut s = statistics;
-    let answer = subscriptions::receive(&mut t, store, &mut s, a, datagram);
-    One {
-        slots: t,
-        statistics: s,
-        answer: answer,
+    // Reading slot k.
+    pub fn read(&self, store: &[u8], k: usize) -> Result<View, Refusal>
+        ensures { Reads k (take self.now.lent self.now.records) (take self.now.octets store.now) result }
+    {
+        let n = self.count();
+        let m = self.octets.min(store.len());
+        subscriptions::read(&self.records[..n], &store[..m], k)
     }
 }
 
 // A PD datagram arrives at a slot that is a table's only one.
 pub fn receive_alone(
-    slot: Subscription,
+    slot: &mut Subscription,
     store: &mut [u8],
-    statistics: Statistics,
+    statistics: &mut Statistics,
     a: Arrival,
     datagram: &[u8],
-) -> Alone
-    ensures { arriving.Receives a datagram.now (slot ∷ []) store.old statistics (meaning result.answer) (result.slot ∷ []) store.new result.statistics }
+) -> Result<usize, Refusal>
+    ensures { arriving.Receives a datagram.now (slot.old ∷ []) store.old statistics.old (told table.delivered result)
+        (slot.new ∷ []) store.new statistics.new }
 {
-    let r = receive_one([slot; 1], store, statistics, a, datagram);
-    let slots = r.slots;
-    let s = r.statistics;
-    let answer = r.answer;
-    Alone {
-        slot: slots[0],
-        statistics: s,
-        answer: answer,
+    let mut slots = [*slot];
+    let answer = Table {
+        slots: &mut slots,
+        store,
     }
+    .receive(statistics, a, datagram);
+    *slot = slots[0];
+    answer
 }

@@ -1,38 +1,35 @@
 -- Where a line ends: LF looked for octet by octet and in parts; a line gathered.
 -- Assumes nothing.
-use mathlib.Core.Path.{◌≡◌, sym, ap, ◌∙◌}
-use mathlib.Core.Bool.{Bool, true, false, cond, ◌||◌, or_assoc, or-true, or-false, true≢false}
+use mathlib.Core.Path.{◌≡◌, refl, sym, ap, ◌∙◌}
+use mathlib.Core.Bool.{Bool, true, false, cond, ◌||◌, or_assoc, or-false, true≢false}
 use mathlib.Core.List.{List, [], ◌∷◌}
 use Prim.Native.Nat.{ℕ, zero, suc, ◌+◌, ◌<◌, ◌≤◌, max}
 use native.Mathlib.Nat.{zero-add}
 use native.Mathlib.Numerals.{add-one}
 use native.Mathlib.Omega.{arith}
-use borrow.Author.Tests.{lt-ltb, le-leb, lt-leb, eq-eqb, ne_eqb}
-use lib.Dec.{eqb, ltb}
+use borrow.Author.Tests.{le-leb, lt-leb, ltb-true, ltb-false}
+use lib.Dec.{eqb}
+use Rattle.std.specs.Prelude.{Some, None, nat_lt}
+use Rattle.std.specs.List.{position, position_or_len}
+use Rattle.std.proofs.lemmas.List.Recursion.{is_position_or_len}
 use lib.ListN.{length, get_or, take, drop, drop_of_length-le}
-use lib.Seq.{drop-cons, drop-drop}
+use lib.Seq.{drop-cons}
 use Rattle.octets.specs.Octets.{put}
 use Rattle.answer.specs.Answer.{room}
-use Rattle.line.specs.Lines.{has_end, until_end, first_end, gathered}
+use Rattle.line.specs.Lines.{has_end, until_end, gathered}
 
--- the greater of two marks is set where one is
-either : (f : ℕ) (b : Bool) → ltb 0 (max f (cond b 1 0)) ≡ (ltb 0 f || b)
-either f true = lt-ltb 0 (max f 1) (omega arith) ∙ sym (or-true (ltb 0 f))
-either f false = let e : max f 0 ≡ f = omega arith in ap (ltb 0) e ∙ sym (or-false (ltb 0 f))
-
-pub end_more : (s : List ℕ) (f i : ℕ) → i < length s → (ltb 0 f || has_end (drop i s)) ≡ has_end s → (ltb 0 (max f (cond (eqb (get_or s i 0) 10) 1 0)) || has_end (drop (i + 1) s)) ≡ has_end s
+pub end_more : (s : List ℕ) (f : Bool) (i : ℕ) → i < length s → (f || has_end (drop i s)) ≡ has_end s → ((f || eqb (get_or s i 0) 10) || has_end (drop (i + 1) s)) ≡ has_end s
 end_more s f i h e =
-    ap (λ (b : Bool). b || has_end (drop (i + 1) s)) (either f (eqb (get_or s i 0) 10))
-    ∙ or_assoc (ltb 0 f) (eqb (get_or s i 0) 10) (has_end (drop (i + 1) s))
-    ∙ ap (λ (j : ℕ). ltb 0 f || (eqb (get_or s i 0) 10 || has_end (drop j s))) (add-one i)
-    ∙ ap (λ (t : List ℕ). ltb 0 f || has_end t) (sym (drop-cons s i 0 h))
+    or_assoc f (eqb (get_or s i 0) 10) (has_end (drop (i + 1) s))
+    ∙ ap (λ (j : ℕ). f || (eqb (get_or s i 0) 10 || has_end (drop j s))) (add-one i)
+    ∙ ap (λ (t : List ℕ). f || has_end t) (sym (drop-cons s i 0 h))
     ∙ e
 
-pub end-all : (s : List ℕ) (f i : ℕ) → length s ≤ i → (ltb 0 f || has_end (drop i s)) ≡ has_end s → ltb 0 f ≡ has_end s
-end-all s f i h e = sym (ap (λ (t : List ℕ). ltb 0 f || has_end t) (drop_of_length-le s h) ∙ or-false (ltb 0 f)) ∙ e
+pub end-all : (s : List ℕ) (f : Bool) (i : ℕ) → length s ≤ i → (f || has_end (drop i s)) ≡ has_end s → f ≡ has_end s
+end-all s f i h e = sym (ap (λ (t : List ℕ). f || has_end t) (drop_of_length-le s h) ∙ or-false f) ∙ e
 
 -- octets without LF are passed over
-passed : (s : List ℕ) (n : ℕ) → n ≤ length s → has_end (take n s) ≡ false → n + until_end (drop n s) ≡ until_end s
+pub passed : (s : List ℕ) (n : ℕ) → n ≤ length s → has_end (take n s) ≡ false → n + until_end (drop n s) ≡ until_end s
 passed s zero h e = zero-add (until_end s)
 passed [] (suc n) h e = absurd (omega arith)
 passed (x ∷ s) (suc n) h e = go (eqb x 10) e (passed s n (omega arith))
@@ -41,32 +38,39 @@ passed (x ∷ s) (suc n) h e = go (eqb x 10) e (passed s n (omega arith))
     go true d k = absurd (true≢false d)
     go false d k = let m : n + until_end (drop n s) ≡ until_end s = k d in omega arith
 
-module _ (block : List ℕ) (i : ℕ) where
-  pub end-passed : (n : ℕ) → n ≤ length (drop i block) → has_end (take n (drop i block)) ≡ false → first_end block (i + n) ≡ first_end block i
-  end-passed n h e =
-      let k : n + until_end (drop n (drop i block)) ≡ until_end (drop i block) = passed (drop i block) n h e in
-      let d : until_end (drop n (drop i block)) ≡ until_end (drop (i + n) block) = ap until_end (drop-drop n i block) in
-      omega arith
+-- how many octets stand before the first LF, in the words of the library
+until-position : (s : List ℕ) → until_end s ≡ position_or_len (λ (x : ℕ). eqb x 10) s
+until-position s = is_position_or_len until_end (λ (x : ℕ). eqb x 10) refl (λ x xs. ap (cond (eqb x 10) 0) (omega arith)) s
 
-  here : i < length block → until_end (drop i block) ≡ cond (eqb (get_or block i 0) 10) 0 (suc (until_end (drop (suc i) block)))
-  here h = ap until_end (drop-cons block i 0 h)
+module _ (s : List ℕ) where
+  pub found-at : (k : ℕ) → Some k ≡ position (λ (x : ℕ). eqb x 10) s → (k ≡ until_end s) × (k < length s)
+  found-at k e = go (nat_lt (position_or_len (λ (x : ℕ). eqb x 10) s) (length s)) refl
+    where
+      go : (b : Bool) → nat_lt (position_or_len (λ (x : ℕ). eqb x 10) s) (length s) ≡ b → (k ≡ until_end s) × (k < length s)
+      go true h =
+          let r : Some k ≡ Some (position_or_len (λ (x : ℕ). eqb x 10) s) = e ∙ ap (λ (b : Bool). cond b (Some (position_or_len (λ (x : ℕ). eqb x 10) s)) None) h in
+          let q : k ≡ position_or_len (λ (x : ℕ). eqb x 10) s = cc in
+          (q ∙ sym (until-position s), omega (arith, q, ltb-true (position_or_len (λ (x : ℕ). eqb x 10) s) (length s) h))
+      go false h =
+          let r : Some k ≡ None = e ∙ ap (λ (b : Bool). cond b (Some (position_or_len (λ (x : ℕ). eqb x 10) s)) None) h in
+          absurd (cc)
 
-  pub end-here : i < length block → get_or block i 0 ≡ 10 → i ≡ first_end block i
-  end-here h e =
-      let k : until_end (drop i block) ≡ 0 =
-      here h ∙ ap (λ (b : Bool). cond b 0 (suc (until_end (drop (suc i) block)))) (eq-eqb (get_or block i 0) 10 e) in
-      omega arith
+until-le : (s : List ℕ) → until_end s ≤ length s
+until-le [] = omega arith
+until-le (x ∷ s) = go (eqb x 10) (until-le s)
+  where
+    go : (b : Bool) → until_end s ≤ length s → cond b 0 (suc (until_end s)) ≤ length (x ∷ s)
+    go true h = omega arith
+    go false h = omega arith
 
-  pub end-next : i < length block → (get_or block i 0 ≡ 10 → ⊥) → first_end block (i + 1) ≡ first_end block i
-  end-next h e =
-      let k : until_end (drop i block) ≡ suc (until_end (drop (i + 1) block)) =
-      here h
-      ∙ ap (λ (b : Bool). cond b 0 (suc (until_end (drop (suc i) block)))) (ne_eqb (get_or block i 0) 10 e)
-      ∙ ap (λ (j : ℕ). suc (until_end (drop j block))) (sym (add-one i)) in
-      omega arith
-
-  pub end_none : length block ≤ i → i ≡ first_end block i
-  end_none h = let k : until_end (drop i block) ≡ 0 = ap until_end (drop_of_length-le block h) in omega arith
+pub found-none : (s : List ℕ) → None ≡ position (λ (x : ℕ). eqb x 10) s → until_end s ≡ length s
+found-none s e = go (nat_lt (position_or_len (λ (x : ℕ). eqb x 10) s) (length s)) refl
+  where
+    go : (b : Bool) → nat_lt (position_or_len (λ (x : ℕ). eqb x 10) s) (length s) ≡ b → until_end s ≡ length s
+    go true h =
+        let r : None ≡ Some (position_or_len (λ (x : ℕ). eqb x 10) s) = e ∙ ap (λ (b : Bool). cond b (Some (position_or_len (λ (x : ℕ). eqb x 10) s)) None) h in
+        absurd (cc)
+    go false h = omega (arith, until-le s, until-position s, ltb-false (position_or_len (λ (x : ℕ). eqb x 10) s) (length s) h)
 
 -- a line with more octets: they fit, or it is too long
 module _ (more : List ℕ) (begun : ℕ) (line : List ℕ) where

@@ -3,3 +3,4 @@ mod Ends
 pub mod Said
 pub mod Fields
 pub mod Counted
+pub mod Reading

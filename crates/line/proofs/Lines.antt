@@ -2,14 +2,15 @@
 -- Assumes nothing.
 use mathlib.Core.Path.{◌≡◌, refl, sym, ap, ap₂, ◌∙◌}
 use mathlib.Core.Bool.{Bool, true, false, cond, not, ◌&&◌, true≢false}
-use mathlib.Core.List.{List, ◌∷◌, ◌++◌, append-nil}
+use mathlib.Core.List.{List, [], ◌∷◌, ◌++◌, append-nil}
+use lib.Pointwise.{pointwise}
+use Rattle.std.specs.Prelude.{nat_eq}
 use Prim.Native.Nat.{ℕ, ◌+◌, ◌<◌, ◌≤◌}
-use native.Mathlib.Numerals.{add-one}
 use native.Mathlib.Omega.{arith}
 use borrow.Author.Tests.{ltb-true, lt-ltb, le-ltb, le-leb, lt-leb, eq-eqb, ne_eqb}
 use lib.Dec.{eqb, ltb}
 use lib.ListN.{length, get_or, take, drop, drop_of_length-le, length-append}
-use lib.Seq.{drop-cons, take_at}
+use lib.Seq.{take_at}
 use Rattle.std.specs.Counts.{IsPrefixLen}
 use Rattle.octets.specs.Octets.{part, put}
 use Rattle.hexadecimal.specs.Hex.{is_hex}
@@ -49,25 +50,36 @@ module _ (v : ℕ) (s : List ℕ) (f : Field) (n : ℕ) where
   pub field-bad : f.is_bad ≡ false → has_digits s f.next n ≡ false → field_of v s f n ≡ bad_at f.next
   field-bad e h = ap₂ (λ (a b : Bool). cond a f (cond b (read_to v (f.next + 1 + n)) (bad_at f.next))) e h
 
--- one letter of the line beside one of the verb
-letter : (s verb : List ℕ) (i : ℕ) → i < length s → i < length verb → verb_is (drop i s) (drop i verb) ≡ (eqb (get_or s i 0) (get_or verb i 0) && verb_is (drop (i + 1) s) (drop (i + 1) verb))
-letter s verb i h k =
-    ap₂ verb_is (drop-cons s i 0 h ∙ ap (λ (j : ℕ). get_or s i 0 ∷ drop j s) (sym (add-one i))) (drop-cons verb i 0 k ∙ ap (λ (j : ℕ). get_or verb i 0 ∷ drop j verb) (sym (add-one i)))
+-- what stands behind a verb
+abbrev pub verb_end : List ℕ → Bool
+verb_end [] = true
+verb_end (x ∷ s) = eqb x 32
 
-pub same-letter : (s verb : List ℕ) (i : ℕ) → i < length s → i < length verb → get_or s i 0 ≡ get_or verb i 0 → verb_is (drop i s) (drop i verb) ≡ verb_is (drop (i + 1) s) (drop (i + 1) verb)
-same-letter s verb i h k e = letter s verb i h k ∙ ap (λ (b : Bool). b && verb_is (drop (i + 1) s) (drop (i + 1) verb)) (eq-eqb (get_or s i 0) (get_or verb i 0) e)
+pub verb-found : (s verb : List ℕ) → pointwise nat_eq (take (length verb) s) verb ≡ true → verb_is s verb ≡ verb_end (drop (length verb) s)
+verb-found [] [] e = refl
+verb-found (x ∷ s) [] e = refl
+verb-found [] (y ∷ v) e = absurd (true≢false (sym e))
+verb-found (x ∷ s) (y ∷ v) e =
+    ap (λ (b : Bool). b && verb_is s v) (and_left (nat_eq x y) (pointwise nat_eq (take (length v) s) v) e)
+    ∙ verb-found s v (and_right (nat_eq x y) (pointwise nat_eq (take (length v) s) v) e)
 
-pub other-letter : (s verb : List ℕ) (i : ℕ) → i < length s → i < length verb → (get_or s i 0 ≡ get_or verb i 0 → ⊥) → verb_is (drop i s) (drop i verb) ≡ false
-other-letter s verb i h k n = letter s verb i h k ∙ ap (λ (b : Bool). b && verb_is (drop (i + 1) s) (drop (i + 1) verb)) (ne_eqb (get_or s i 0) (get_or verb i 0) n)
+pub verb-other : (s verb : List ℕ) → pointwise nat_eq (take (length verb) s) verb ≡ false → false ≡ verb_is s verb
+verb-other [] [] e = absurd (true≢false e)
+verb-other (x ∷ s) [] e = absurd (true≢false e)
+verb-other [] (y ∷ v) e = refl
+verb-other (x ∷ s) (y ∷ v) e = go (nat_eq x y) e (λ d. verb-other s v d)
+  where
+    go : (b : Bool) → (b && pointwise nat_eq (take (length v) s) v) ≡ false → (pointwise nat_eq (take (length v) s) v ≡ false → false ≡ verb_is s v) → false ≡ (b && verb_is s v)
+    go true d k = k d
+    go false d k = refl
 
-pub line-short : (s verb : List ℕ) (i : ℕ) → length s ≤ i → i < length verb → verb_is (drop i s) (drop i verb) ≡ false
-line-short s verb i h k = ap₂ verb_is (drop_of_length-le s h) (drop-cons verb i 0 k)
+pub verb-ended : (r : List ℕ) → length r ≡ 0 → verb_end r ≡ true
+verb-ended [] h = refl
+verb-ended (x ∷ r) h = absurd (omega arith)
 
-pub verb-ends : (s verb : List ℕ) (i : ℕ) → i < length s → length verb ≤ i → verb_is (drop i s) (drop i verb) ≡ eqb (get_or s i 0) 32
-verb-ends s verb i h k = ap₂ verb_is (drop-cons s i 0 h) (drop_of_length-le verb k)
-
-pub both_end : (s verb : List ℕ) (i : ℕ) → length s ≤ i → length verb ≤ i → verb_is (drop i s) (drop i verb) ≡ true
-both_end s verb i h k = ap₂ verb_is (drop_of_length-le s h) (drop_of_length-le verb k)
+pub verb-spaced : (r : List ℕ) → 0 < length r → verb_end r ≡ eqb (get_or r 0 0) 32
+verb-spaced [] h = absurd (omega arith)
+verb-spaced (x ∷ r) h = refl
 
 -- a part as long as the whole takes its place
 pub put_whole : (x t : List ℕ) → length x ≡ length t → put 0 x t ≡ x

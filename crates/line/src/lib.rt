@@ -1,15 +1,19 @@
-// Lines of octets: gathered from blocks of input, and taken apart into a verb and fields of hexadecimal digits with a single space before each.
+// Lines of octets: gathered from blocks of input, and taken apart into a verb and fields of hexadecimal digits with a
+// single space before each.
 #![tactic(auto)]
 
+pub mod input;
 pub mod output;
+pub mod reader;
 
-ghost use Rattle.std.specs.Prelude.{◌≡◌, false, cond, eqb, ◌+◌, ◌*◌, ◌%◌, ◌^◌, ◌≤◌, min, max, length, take, replicate};
+ghost use Rattle.std.specs.Prelude.{◌≡◌, false, cond, eqb, ◌+◌, ◌-◌, ◌*◌, ◌%◌, ◌^◌, ◌≤◌, min, length, take, replicate, position};
 ghost use Rattle.std.specs.Counts.{IsPrefixLen};
 ghost use Rattle.answer.specs.Answer.{room};
-ghost use Rattle.line.specs.Lines.{has_end, first_end, gathered, ended_of};
+ghost use Rattle.line.specs.Lines.{has_end, until_end, first_end, gathered, ended_of};
 ghost use Rattle.line.specs.Line.{verb_is, has_digits, bad_at, read_to, number_field, octets_field, octets_in, ends, left, last_field, target_after};
 
-// A field that was read, and the place behind it. Bad where the line has another form there or before.
+// A field that was read, and the place behind it. Bad where the line has another form there or before. The verbs of the
+// program `scenario` read by it; with `reader::Fields` a field is an Option.
 #[derive(Clone, Copy)]
 pub struct Field {
     pub value: u64,
@@ -36,20 +40,10 @@ pub fn buffer() -> [u8; 66000]
 pub fn is_verb(s: &[u8], verb: &[u8]) -> bool
     ensures { result ≡ verb_is s.now verb.now }
 {
-    let mut i: usize = 0;
-    while i < verb.len() {
-        if s.len() <= i {
-            return false;
-        }
-        if s[i] != verb[i] {
-            return false;
-        }
-        i += 1;
+    match s.strip_prefix(verb) {
+        Some(rest) => rest.is_empty() || rest[0] == b' ',
+        None => false,
     }
-    if i < s.len() {
-        return s[i] == b' ';
-    }
-    true
 }
 
 // What stands before the first field of a verb of n letters.
@@ -162,7 +156,8 @@ fn is_last(s: &[u8], before: Field, n: usize) -> bool
     false
 }
 
-// The last field of a line: an even number of digits, and no more octets than the target has. A line of another form leaves the target as it was.
+// The last field of a line: an even number of digits, and no more octets than the target has. A line of another form
+// leaves the target as it was.
 pub fn octets(s: &[u8], before: Field, target: &mut [u8]) -> Count
     ensures prefix_len { IsPrefixLen result.count target.new }
     ensures value { result ≡ last_field s.now before (length target.old) }
@@ -234,53 +229,40 @@ pub fn at_most(n: usize, s: &[u8]) -> usize
     ensures prefix_len { IsPrefixLen result s.now }
     ensures value { result ≡ min n (length s.now) }
 {
-    if n <= s.len() {
-        return n;
-    }
-    s.len()
-}
-
-fn greater(a: u8, b: u8) -> u8
-    ensures { result ≡ max a b }
-{
-    if a < b { b } else { a }
-}
-
-// 1 for LF, 0 for any other octet.
-fn ends_line(x: u8) -> u8
-    ensures { result ≡ cond (eqb x 10) 1 0 }
-{
-    if x == b'\n' { 1 } else { 0 }
+    n.min(s.len())
 }
 
 // An octet of s is LF. One pass with no way out between, so that the compiler takes many octets at once.
 fn has_end(s: &[u8]) -> bool
     ensures { result ≡ has_end s.now }
 {
-    let mut found: u8 = 0;
-    let mut i: usize = 0;
-    while i < s.len() {
-        found = greater(found, ends_line(s[i]));
-        i += 1;
+    let mut found = false;
+    for x in s {
+        found |= *x == b'\n';
     }
-    0 < found
+    found
 }
 
-// A place from which on the first LF is less than 64 octets away or the block's end is.
-fn near_end(block: &[u8], from: usize) -> usize
-    requires { from ≤ length block.now }
-    ensures lower_bound { (from ≤ result) × (result ≤ length block.now) }
-    ensures result_value { first_end block.now result ≡ first_end block.now from }
+// What is left of a block where an LF is less than 64 octets away or the block's end is, and no LF before.
+fn near_end(block: &[u8]) -> &[u8]
+    ensures within { length result.now ≤ length block.now }
+    ensures value { length block.now - length result.now + until_end result.now ≡ until_end block.now }
 {
-    let mut i = from;
-    while 64 <= block.len() - i {
-        let e = i + 64;
-        if has_end(&block[i..e]) {
-            return i;
+    let mut rest = block;
+    while let Some((part, behind)) = rest.split_at_checked(64) {
+        if has_end(part) {
+            break;
         }
-        i = e;
+        rest = behind;
     }
-    i
+    rest
+}
+
+// The place of the first LF.
+fn first(s: &[u8]) -> Option<usize>
+    ensures { result ≡ position (λ x. eqb x 10) s.now }
+{
+    s.iter().position(|x| *x == b'\n')
 }
 
 // The place of the first LF from a place on; the block's end where there is none.
@@ -289,14 +271,11 @@ pub fn line_end(block: &[u8], from: usize) -> usize
     ensures lower_bound { (from ≤ result) × (result ≤ length block.now) }
     ensures value { result ≡ first_end block.now from }
 {
-    let mut i = near_end(block, from);
-    while i < block.len() {
-        if block[i] == b'\n' {
-            return i;
-        }
-        i += 1;
+    let rest = near_end(&block[from..]);
+    match first(rest) {
+        Some(k) => block.len() - rest.len() + k,
+        None => block.len(),
     }
-    i
 }
 
 // The line begun, with more octets; its count is beyond its room where it is too long.
@@ -318,10 +297,7 @@ pub fn ended(line: &[u8], begun: usize) -> usize
     ensures prefix_len { IsPrefixLen result line.now }
     ensures value { result ≡ ended_of line.now begun }
 {
-    if begun <= line.len() {
-        return begun;
-    }
-    0
+    if begun <= line.len() { begun } else { 0 }
 }
 
 // The place behind a line's end.

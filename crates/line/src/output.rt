@@ -3,13 +3,6 @@ ghost use Rattle.std.specs.Prelude.{◌≡◌, cond, ◌<◌, ◌≤◌, ltb, le
 
 use std::io::{self, Print, Stdout};
 
-// The first n octets written to standard output.
-fn write(to: Stdout, out: &[u8], n: usize) -> io::Result<()>
-    requires { n ≤ length out.now }
-{
-    to.write_all(&out[..n])
-}
-
 // Octets that wait written out where they are more than some number; how many still wait. An error comes of the write
 // alone, which may then have written some of them.
 pub fn flush(to: Stdout, out: &[u8], waiting: usize, most: usize) -> io::Result<usize>
@@ -18,9 +11,9 @@ pub fn flush(to: Stdout, out: &[u8], waiting: usize, most: usize) -> io::Result<
     ensures value { IfOk result (λ n. n ≡ cond (ltb most waiting) 0 waiting) }
     ensures err { OnErr result (most < waiting) }
 {
-    if most < waiting {
-        write(to, out, waiting)?;
-        return Ok(0);
+    if waiting <= most {
+        return Ok(waiting);
     }
-    Ok(waiting)
+    to.write_all(&out[..waiting])?;
+    Ok(0)
 }

@@ -23,7 +23,8 @@ use Rattle.telegram.proofs.Writing.{granted}
 use Rattle.telegram.proofs.RoundTrip.{InRange, with_length, common-back, part-front, dataset-back, part_end, part_left, bigs, parts, common-again, telegram-again}
 use Rattle.telegram.proofs.Passing.{granted-passes, sound-granted}
 use Rattle.md.specs.declared.MdHeader.{MdHeader}
-use Rattle.md.specs.declared.MdTaken.TheVariants.{Header, Refused}
+use Rattle.std.specs.Prelude.{Ok, Result}
+use Rattle.refusal.specs.declared.Refusal.{Refusal}
 use Rattle.md.specs.Uri as uri
 use Rattle.md.specs.Md.{header_of, session_id_of, source_uri_of, destination_uri_of, take_md, front_of, frame_of, write_checks_md}
 use Rattle.md.proofs.Fronts.{front_length}
@@ -115,12 +116,12 @@ module _ (i source destination : List ℕ) (il : length i ≡ 16) (sl : length s
     header-back = rw (common-frame h r s (omega arith), status-back, timeout-back)
 
     -- taking apart what was written gives the fields back, for every header that the writer grants
-    pub written-reads-back : (room : ℕ) → first_of (write_checks_md h source destination (length s) room) ≡ 0 → take_md frame ≡ Header (read_back h (length s))
+    pub written-reads-back : (room : ℕ) → first_of (write_checks_md h source destination (length s) room) ≡ Ok tt → take_md frame ≡ Ok (read_back h (length s))
     written-reads-back room e =
         let g = granted family.Md h.common (length s) (uri.sound source && uri.sound destination) room e in
-        ap (λ (v : ℕ). answer Header Refused v (header_of frame))
+        ap (λ (v : Result (Unit {0}) Refusal). answer v (header_of frame))
         (granted-passes family.Md h.common (front_of h i source destination (length s)) s (uri.sound source && uri.sound destination) room long (common-frame h r s (omega arith)) g)
-        ∙ ap Header header-back
+        ∙ ap Ok header-back
 
     -- and the session identifier
     pub written-id-back : session_id_of frame ≡ i
@@ -144,7 +145,7 @@ word_below d o k h =
     subst (λ (n : ℕ). big (part 4 k d) < 256 ^ n) (part_length 4 k d h) (big-below (part 4 k d) (octets-take 4 (drop k d) (octets-drop k d o)))
 
 -- a datagram that was taken apart
-module _ (d : List ℕ) (h : MdHeader) (e : take_md d ≡ Header h) where
+module _ (d : List ℕ) (h : MdHeader) (e : take_md d ≡ Ok h) where
   length-is : length d ≡ 116 + padded (common_of d).dataset_length
   length-is = (whole family.Md d (taken d h e).0).1
 
@@ -174,7 +175,7 @@ module _ (d : List ℕ) (h : MdHeader) (e : take_md d ≡ Header h) where
 
   -- the writer grants it where its URI fields are sound and there is room
   pub taken-is-granted : (room : ℕ) → (uri.sound (source_uri_of d) && uri.sound (destination_uri_of d)) ≡ true → length d ≤ room
-      → first_of (write_checks_md h (source_uri_of d) (destination_uri_of d) (length (dataset_of family.Md d)) room) ≡ 0
+      → first_of (write_checks_md h (source_uri_of d) (destination_uri_of d) (length (dataset_of family.Md d)) room) ≡ Ok tt
   taken-is-granted room u k =
       let s = sound family.Md d (whole family.Md d (taken d h e).0).0 in
       ap (λ (x : MdHeader). first_of (write_checks_md x (source_uri_of d) (destination_uri_of d) (length (dataset_of family.Md d)) room)) (sym (taken d h e).1)

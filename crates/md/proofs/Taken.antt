@@ -1,26 +1,17 @@
--- A header is taken exactly where the checks give no number.
+-- A header is taken exactly where the checks pass.
 -- Assumes nothing.
-use mathlib.Core.Path.{◌≡◌}
-use mathlib.Core.List.{List}
-use Prim.Native.Nat.{ℕ}
-use native.Mathlib.Omega.{arith}
+use Rattle.std.proofs.Common.{◌≡◌, ℕ, List}
+use Rattle.std.specs.Prelude.{Ok}
 use Rattle.refusal.specs.Refusal.{first_of}
 use Rattle.refusal.proofs.Answer.{opened}
 use Rattle.telegram.specs.Telegram.{header_checks, checks}
 use Rattle.telegram.specs.declared.Family.TheVariants as family
 use Rattle.md.specs.declared.MdHeader.{MdHeader}
-use Rattle.md.specs.declared.MdTaken.TheVariants.{Header, Refused}
 use Rattle.md.specs.Md.{header_of, take_header, take_md}
 
-pub apart : (h : MdHeader) (r : ℕ) → Header h ≡ Refused r → ⊥
-apart h r e = let z : ◌≡◌ {A = ℕ} 0 1 = cc in omega arith
-
-same : (h x : MdHeader) → Header h ≡ Header x → h ≡ x
-same h x e = cc
-
 -- a header that was taken passed its checks, and is the one that the octets write
-pub header-taken : (d : List ℕ) (x : MdHeader) → take_header d ≡ Header x → (first_of (header_checks family.Md d) ≡ 0) × (header_of d ≡ x)
-header-taken d x e = opened Header Refused apart (first_of (header_checks family.Md d)) (header_of d) x (same (header_of d)) e
+pub header-taken : (d : List ℕ) (x : MdHeader) → take_header d ≡ Ok x → (first_of (header_checks family.Md d) ≡ Ok tt) × (header_of d ≡ x)
+header-taken d x e = opened (first_of (header_checks family.Md d)) (header_of d) x e
 
-pub taken : (d : List ℕ) (x : MdHeader) → take_md d ≡ Header x → (first_of (checks family.Md d) ≡ 0) × (header_of d ≡ x)
-taken d x e = opened Header Refused apart (first_of (checks family.Md d)) (header_of d) x (same (header_of d)) e
+pub taken : (d : List ℕ) (x : MdHeader) → take_md d ≡ Ok x → (first_of (checks family.Md d) ≡ Ok tt) × (header_of d ≡ x)
+taken d x e = opened (first_of (checks family.Md d)) (header_of d) x e

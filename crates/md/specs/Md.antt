@@ -1,13 +1,12 @@
 -- The MD header of 116 octets: taken apart, and written.
-use Rattle.std.specs.Prelude.{ℕ, List, [], ◌++◌, cond, ◌&&◌, leb, length, replicate}
+use Rattle.std.specs.Prelude.{ℕ, List, [], ◌++◌, cond, ◌&&◌, leb, length, replicate, Result}
 use Rattle.refusal.specs.Refusal.{Check, first_of, answer}
 use Rattle.octets.specs.Octets.{big, big_of, part, signed, unsigned}
 use Rattle.telegram.specs.Telegram.{common_of, header_checks, checks, write_checks, common_octets, telegram_of}
 use Rattle.telegram.specs.declared.Family.TheVariants as family
 use Rattle.md.specs.Uri.{sound}
 use Rattle.md.specs.declared.MdHeader.{MdHeader}
-use Rattle.md.specs.declared.MdTaken.{MdTaken}
-use Rattle.md.specs.declared.MdTaken.TheVariants.{Header, Refused}
+use Rattle.refusal.specs.declared.Refusal.{Refusal}
 
 -- replyStatus 4 (signed) at 24, replyTimeout 4 at 44
 abbrev pub header_of : List ℕ → MdHeader
@@ -26,18 +25,13 @@ source_uri_of d = cond (leb 80 (length d)) (part 32 48 d) []
 abbrev pub destination_uri_of : List ℕ → List ℕ
 destination_uri_of d = cond (leb 112 (length d)) (part 32 80 d) []
 
--- document 01's number of an answer; 0 of a header
-abbrev pub refusal_of : MdTaken → ℕ
-refusal_of (Header h) = 0
-refusal_of (Refused r) = r
-
 -- a header judged before its datagram is whole
-abbrev pub take_header : List ℕ → MdTaken
-take_header d = answer Header Refused (first_of (header_checks family.Md d)) (header_of d)
+abbrev pub take_header : List ℕ → Result MdHeader Refusal
+take_header d = answer (first_of (header_checks family.Md d)) (header_of d)
 
 -- a datagram taken apart: checks 2 to 6
-abbrev pub take_md : List ℕ → MdTaken
-take_md d = answer Header Refused (first_of (checks family.Md d)) (header_of d)
+abbrev pub take_md : List ℕ → Result MdHeader Refusal
+take_md d = answer (first_of (checks family.Md d)) (header_of d)
 
 -- the first 112 octets of a header with its identifier and URI fields, before a dataset of n octets
 abbrev pub front_of : MdHeader → List ℕ → List ℕ → List ℕ → ℕ → List ℕ

@@ -1,51 +1,41 @@
 // URI fields: sound, empty, compared up to the first zero octet.
-ghost use Rattle.std.specs.Prelude.{◌≡◌};
-ghost use Rattle.md.specs.Uri.{same_uri, sound, empty};
+ghost use Rattle.std.specs.Prelude.{◌≡◌, ◌==◌, position};
+ghost use Rattle.md.specs.Uri.{text, same_uri, sound, empty};
 
 // A field has a zero octet; else refusal 20.
 pub fn is_sound(u: &[u8]) -> bool
     ensures { result ≡ sound u.now }
 {
-    let mut i: usize = 0;
-    while i < u.len() {
-        if u[i] == 0 {
-            return true;
-        }
-        i += 1;
-    }
-    false
+    u.contains(&0)
 }
 
-// A field's first octet is zero.
+// A field's first octet is zero, or it has none.
 pub fn is_empty(u: &[u8]) -> bool
     ensures { result ≡ empty u.now }
 {
-    if u.len() == 0 {
-        return true;
+    u.is_empty() || u[0] == 0
+}
+
+// The place of a field's first zero octet.
+fn end(u: &[u8]) -> Option<usize>
+    ensures { result ≡ position (λ x. x == 0) u.now }
+{
+    u.iter().position(|x| *x == 0)
+}
+
+// A field's URI: its octets before the first zero.
+fn text(u: &[u8]) -> &[u8]
+    ensures { result.now ≡ text u.now }
+{
+    match end(u) {
+        Some(n) => &u[..n],
+        None => u,
     }
-    u[0] == 0
 }
 
 // Two fields bear the same URI, each up to its first zero octet.
 pub fn are_same(a: &[u8], b: &[u8]) -> bool
     ensures { result ≡ same_uri a.now b.now }
 {
-    let mut i: usize = 0;
-    while i < a.len() {
-        if i >= b.len() {
-            return a[i] == 0;
-        }
-        if a[i] != b[i] {
-            return false;
-        }
-        let has_ended = a[i] == 0;
-        if has_ended {
-            return true;
-        }
-        i += 1;
-    }
-    if i < b.len() {
-        return b[i] == 0;
-    }
-    true
+    text(a) == text(b)
 }

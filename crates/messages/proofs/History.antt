@@ -9,7 +9,8 @@ use Rattle.session_table.specs.Table.{Tables}
 use Rattle.session_table.specs.Table.{Call, listen, unlisten, calling, telegram, reply, confirm, time_check, Answer, step}
 use Rattle.messages.specs.History.{statistics_after, statistics_over, entered, history}
 
-one-call : (c : Call) (x : Answer) (more : List Arrived) (s : Statistics) → after_all (entered c x more) s ≡ after_all more (statistics_after c x s)
+one-call : (c : Call) (x : Answer) (more : List Arrived) (s : Statistics)
+    → after_all (entered c x more) s ≡ after_all more (statistics_after c x s)
 one-call (listen com_id senders u) x more s = refl
 one-call (unlisten k) x more s = refl
 one-call (calling id timeout time) x more s = refl
@@ -18,7 +19,8 @@ one-call (reply k type timeout time) x more s = refl
 one-call (confirm k) x more s = refl
 one-call (time_check time) x more s = refl
 
-pub md-statistics : (calls : List Call) (t : Tables) (s : Statistics) → statistics_over calls t s ≡ after_all (history calls t) s
+pub md-statistics : (calls : List Call) (t : Tables) (s : Statistics)
+    → statistics_over calls t s ≡ after_all (history calls t) s
 md-statistics =
     of-history
     (λ c t. (step c t).after)

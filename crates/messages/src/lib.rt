@@ -2,24 +2,29 @@
 #![tactic(auto)]
 
 ghost use Rattle.std.specs.Prelude.{◌≡◌, ◌&&◌};
+ghost use Rattle.refusal.specs.Refusal.{first_of, answer};
 ghost use Rattle.md.specs.Uri.{sound};
-ghost use Rattle.md.specs.Md.{source_uri_of, destination_uri_of};
-ghost use Rattle.session.specs.Session.{waits_for_reply, waits_of};
-ghost use Rattle.session_table.specs.Table.{telegram, hearing, notifying, requesting, taking, ended, owing, arriving, kind_of};
-ghost use Rattle.session_table.specs.Calls.{meaning};
+ghost use Rattle.md.specs.Md.{header_of, source_uri_of, destination_uri_of};
+ghost use Rattle.session.specs.declared.SessionState.TheVariants.{OwingConfirm};
+ghost use Rattle.session.specs.Session.{waits_of};
+ghost use Rattle.session_table.specs.Sought.{found_of};
+ghost use Rattle.session_table.specs.Table.{md_checks, telegram, hearing, notifying, requesting, taking, arriving, kind_of};
+ghost use Rattle.session_table.specs.Calls.{heard};
 ghost use Rattle.packed.specs.Packed.{tables_of};
 ghost use Rattle.packed_slots.specs.Calls.{Follows};
-ghost use Rattle.messages.specs.Arriving.{heard_by, by_identifier, outcome_of, Gives};
+ghost use Rattle.messages.specs.Arriving.{heard_by, outcome_of, Gives};
 
 use arrival::Arrival;
-use md::MdTaken;
-use session::{Session, SessionState, Waits};
-use session_table::{Answer, Found, ListenerSought, Sought};
+use md::MdHeader;
+use packed::OCTETS;
+use refusal::Refusal;
+use session::{Kind, Session, SessionState, Waits};
+use session_table::{Arrived, MdRefusal};
 use timing::Timing;
 
-// What a telegram says that passed its checks; its destination URI stands beside it.
+// What a telegram says that passed its checks.
 #[derive(Clone, Copy)]
-pub struct Message {
+pub struct Message<'a> {
     pub msg_type: u16,
     pub com_id: u32,
     pub sender: u32,
@@ -27,155 +32,155 @@ pub struct Message {
     pub id: [u8; 16],
     pub status: i32,
     pub timeout: u32,
+    pub destination: &'a [u8],
 }
 
-// Mn: 8, else the lowest listener that hears it; no session.
-fn notify(octets: &[u8; 1280], m: Message, destination: &[u8]) -> Answer
-    ensures { Gives octets.now (notifying (hearing (heard_by m destination.now) (tables_of octets.now).listeners) (tables_of octets.now).sessions) result octets.now }
-{
-    let f = packed_slots::find_listener(
-        octets,
-        ListenerSought::Hearing(m.com_id, m.sender),
-        destination,
-    );
-    let Found::At(l) = f else {
-        return Answer::Refused(refusal::NO_MATCH, 0);
-    };
-    Answer::Notified(l)
-}
+impl<'a> Message<'a> {
+    // Since when a session waits that the telegram opens or changes, and how long.
+    fn timing(&self) -> Timing
+        ensures { result ≡ record { start = self.now.time; timeout = self.now.timeout } }
+    {
+        Timing {
+            start: self.time,
+            timeout: self.timeout,
+        }
+    }
 
-// Mr: 8 with status -3, 17, 18 with status -4; else the lowest free session, with the user.
-fn request(octets: &mut [u8; 1280], m: Message, destination: &[u8]) -> Answer
-    ensures { Gives octets.old (requesting (hearing (heard_by m destination.now) (tables_of octets.old).listeners) (heard_by m destination.now) (tables_of octets.old).sessions) result octets.new }
-{
-    let f = packed_slots::find_listener(
-        octets,
-        ListenerSought::Hearing(m.com_id, m.sender),
-        destination,
-    );
-    let Found::At(l) = f else {
-        return Answer::Refused(refusal::NO_MATCH, -3);
-    };
-    let waits = Timing {
-        start: m.time,
-        timeout: m.timeout,
-    };
-    let id = m.id;
-    let place = packed_slots::open(octets, id, SessionState::WithUser(waits));
-    session_table::requested_as(place, l)
-}
+    // The lowest listener that hears it.
+    fn listener(&self, octets: &[u8; OCTETS]) -> Option<usize>
+        ensures { result ≡ found_of (hearing (heard_by self.now) (tables_of octets.now).listeners) }
+    {
+        packed_slots::find_hearing(octets, self.com_id, self.sender, self.destination)
+    }
 
-// Mp, Me and Mc: 19, else the session is freed.
-fn end_session(octets: &mut [u8; 1280], m: Message, w: Waits) -> Answer
-    ensures { Gives octets.old (taking (waits_of w) ended (by_identifier m) (tables_of octets.old).sessions) result octets.new }
-{
-    let id = m.id;
-    let f = packed_slots::find_session(octets, id, Sought::Waiting(w));
-    let Found::At(k) = f else {
-        return Answer::Refused(refusal::NO_SESSION, 0);
-    };
-    let none = session::no_session();
-    packed_slots::put_session(octets, k, none);
-    Answer::Taken(m.status, k)
-}
+    // Mn: 8, else the lowest listener that hears it; no session.
+    fn notify(&self, octets: &[u8; OCTETS]) -> Result<Arrived, MdRefusal>
+        ensures { Gives octets.now
+            (notifying (hearing (heard_by self.now) (tables_of octets.now).listeners) (tables_of octets.now).sessions)
+            (heard result) octets.now }
+    {
+        let listener = self.listener(octets).ok_or(Refusal::NoMatch)?;
+        Ok(Arrived::Notified { listener })
+    }
 
-// Mq: 19, else the session owes a confirm, with Mq's timeout.
-fn owe_confirm(octets: &mut [u8; 1280], m: Message) -> Answer
-    ensures { Gives octets.old (taking waits_for_reply (owing (by_identifier m)) (by_identifier m) (tables_of octets.old).sessions) result octets.new }
-{
-    let id = m.id;
-    let f = packed_slots::find_session(octets, id, Sought::Waiting(Waits::Reply));
-    let Found::At(k) = f else {
-        return Answer::Refused(refusal::NO_SESSION, 0);
-    };
-    let waits = Timing {
-        start: m.time,
-        timeout: m.timeout,
-    };
-    let x = packed_slots::session_at(octets, k);
-    let own = x.id;
-    let owes = Session {
-        id: own,
-        state: SessionState::OwingConfirm(waits),
-    };
-    packed_slots::put_session(octets, k, owes);
-    Answer::Taken(m.status, k)
-}
+    // Mr: 8 with status -3, 17, 18 with status -4; else the lowest free session, with the user.
+    fn request(&self, octets: &mut [u8; OCTETS]) -> Result<Arrived, MdRefusal>
+        ensures { Gives octets.old
+            (requesting (hearing (heard_by self.now) (tables_of octets.old).listeners) (heard_by self.now)
+            (tables_of octets.old).sessions) (heard result) octets.new }
+    {
+        let Some(listener) = self.listener(octets) else {
+            return Err(MdRefusal {
+                refusal: Refusal::NoMatch,
+                status: -3,
+            });
+        };
+        match packed_slots::open(octets, self.id, SessionState::WithUser(self.timing())) {
+            Ok(session) => Ok(Arrived::Requested { listener, session }),
+            Err(Refusal::NoFreeSession) => Err(MdRefusal {
+                refusal: Refusal::NoFreeSession,
+                status: -4,
+            }),
+            Err(refusal) => Err(refusal.into()),
+        }
+    }
 
-// The rule of the telegram's type; checks 2 to 6 let only the six in, and Me is the last.
-fn follow(octets: &mut [u8; 1280], m: Message, destination: &[u8]) -> Answer
-    ensures { Gives octets.old (arriving (kind_of m.msg_type) (hearing (heard_by m destination.now) (tables_of octets.old).listeners) (heard_by m destination.now) (tables_of octets.old).sessions) result octets.new }
-{
-    let is_notification = m.msg_type == session::MN;
-    if is_notification {
-        return notify(octets, m, destination);
+    // Mp, Mq, Mc and Me: 19, else the session that waits for this becomes another.
+    fn take(
+        &self,
+        octets: &mut [u8; OCTETS],
+        w: Waits,
+        after: Session,
+    ) -> Result<Arrived, MdRefusal>
+        ensures { Gives octets.old
+            (taking (waits_of w) (λ x. after) (heard_by self.now) (tables_of octets.old).sessions)
+            (heard result) octets.new }
+    {
+        let session = packed_slots::find_waiting(octets, self.id, w).ok_or(Refusal::NoSession)?;
+        packed_slots::put_session(octets, session, after);
+        Ok(Arrived::Taken {
+            status: self.status,
+            session,
+        })
     }
-    if m.msg_type == session::MR {
-        return request(octets, m, destination);
+
+    // The session after Mq: it owes a confirm, with Mq's timeout.
+    fn owing(&self) -> Session
+        ensures { result ≡ record {
+          id = self.now.id;
+          state = OwingConfirm (record {
+            start = self.now.time;
+            timeout = self.now.timeout;
+          });
+        } }
+    {
+        Session {
+            id: self.id,
+            state: SessionState::OwingConfirm(self.timing()),
+        }
     }
-    if m.msg_type == session::MP {
-        return end_session(octets, m, Waits::Reply);
+
+    // The rule of its type; Me is taken as a reply.
+    fn follow(&self, octets: &mut [u8; OCTETS]) -> Result<Arrived, MdRefusal>
+        ensures { Gives octets.old
+            (arriving (kind_of self.now.msg_type) (hearing (heard_by self.now) (tables_of octets.old).listeners)
+            (heard_by self.now) (tables_of octets.old).sessions) (heard result) octets.new }
+    {
+        match Kind::from(self.msg_type) {
+            Kind::Mn => self.notify(octets),
+            Kind::Mr => self.request(octets),
+            Kind::Mp | Kind::Me => self.take(octets, Waits::Reply, Session::free()),
+            Kind::Mq => self.take(octets, Waits::Reply, self.owing()),
+            Kind::Mc => self.take(octets, Waits::Confirm, Session::free()),
+        }
     }
-    if m.msg_type == session::MQ {
-        return owe_confirm(octets, m);
-    }
-    if m.msg_type == session::MC {
-        return end_session(octets, m, Waits::Confirm);
-    }
-    end_session(octets, m, Waits::Reply)
 }
 
 // Both URI fields of a datagram are sound; else refusal 20.
 fn has_sound_uris(datagram: &[u8]) -> bool
     ensures { result ≡ (sound (source_uri_of datagram.now) && sound (destination_uri_of datagram.now)) }
 {
-    if md::uri::is_sound(md::source_uri(datagram)) {
-        return md::uri::is_sound(md::destination_uri(datagram));
+    md::uri::is_sound(md::source_uri(datagram)) && md::uri::is_sound(md::destination_uri(datagram))
+}
+
+// The header of an arriving MD datagram, or the first refusal of 2 to 7 and 20.
+fn judge(a: Arrival, datagram: &[u8]) -> Result<MdHeader, Refusal>
+    ensures { result ≡ answer (first_of (md_checks a datagram.now)) (header_of datagram.now) }
+{
+    let h = telegram::take::<MdHeader>(datagram)?;
+    if !a.is_local(h.common) {
+        return Err(Refusal::Topography);
     }
-    false
+    if !has_sound_uris(datagram) {
+        return Err(Refusal::Uri);
+    }
+    Ok(h)
 }
 
 // An MD datagram arrives: 2 to 7, 20, then the rule of its type.
-pub fn arrive(octets: &mut [u8; 1280], a: Arrival, datagram: &[u8]) -> Answer
-    ensures { Follows (telegram a datagram.now) octets.old result octets.new }
+pub fn arrive(octets: &mut [u8; OCTETS], a: Arrival, datagram: &[u8]) -> Result<Arrived, MdRefusal>
+    ensures { Follows (telegram a datagram.now) octets.old (heard result) octets.new }
 {
-    let taken = md::take_md(datagram);
-    let MdTaken::Header(h) = taken else {
-        return Answer::Refused(md::refusal(taken), 0);
+    let h = judge(a, datagram)?;
+    let m = Message {
+        msg_type: h.common.msg_type,
+        com_id: h.common.com_id,
+        sender: a.sender,
+        time: a.time,
+        id: md::session_id(datagram),
+        status: h.reply_status,
+        timeout: h.reply_timeout,
+        destination: md::destination_uri(datagram),
     };
-    let c = h.common;
-    if arrival::is_local(c, a) {
-        if has_sound_uris(datagram) {
-            let id = md::session_id(datagram);
-            let m = Message {
-                msg_type: c.msg_type,
-                com_id: c.com_id,
-                sender: a.sender,
-                time: a.time,
-                id: id,
-                status: h.reply_status,
-                timeout: h.reply_timeout,
-            };
-            return follow(octets, m, md::destination_uri(datagram));
-        }
-        return Answer::Refused(refusal::URI, 0);
-    }
-    Answer::Refused(refusal::TOPOGRAPHY, 0)
+    m.follow(octets)
 }
 
 // The outcome that an answer counts as: the refusal's number, 0 for whatever was granted.
-pub fn outcome_of(answer: Answer) -> u8
-    ensures { result ≡ outcome_of (meaning answer) }
+pub fn outcome_of(answer: Result<Arrived, MdRefusal>) -> u8
+    ensures { result ≡ outcome_of (heard answer) }
 {
     match answer {
-        Answer::Refused(number, _) => number,
-        Answer::Listening(_) => 0,
-        Answer::Freed => 0,
-        Answer::Opened(_) => 0,
-        Answer::Notified(_) => 0,
-        Answer::Requested(_, _) => 0,
-        Answer::Taken(_, _) => 0,
-        Answer::Replied => 0,
-        Answer::Confirmed => 0,
+        Ok(_) => 0,
+        Err(e) => u8::from(e.refusal),
     }
 }

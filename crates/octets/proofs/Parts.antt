@@ -1,13 +1,13 @@
--- Parts of a list taken octet by octet, and stored octet by octet: laws over the number of octets.
+-- Parts of a list taken octet by octet, and a list overwritten from its front: laws over the number of octets.
 -- Assumes nothing.
 use mathlib.Core.Path.{◌≡◌, refl, sym, ap, ◌∙◌}
-use mathlib.Core.List.{List, [], ◌∷◌, ◌++◌, append-nil, append_assoc}
+use mathlib.Core.List.{List, [], ◌∷◌, ◌++◌, append_assoc}
 use Prim.Native.Nat.{ℕ, zero, suc, ◌+◌, ◌<◌, ◌≤◌}
 use native.Mathlib.Nat.{add-suc, add-zero, le_of_lt}
 use native.Mathlib.Numerals.{add-one}
 use native.Mathlib.Omega.{arith}
-use lib.ListN.{length, get_or, take, drop, set, length-take, length-drop, length-append, drop_of_length-le}
-use lib.Seq.{drop-cons, sets, sets-eq, take-suc, take_all, append_snoc, set_at, length-take-le, drop-drop}
+use lib.ListN.{length, get_or, take, drop, set, length-take, length-drop}
+use lib.Seq.{drop-cons, sets, take-suc, append_snoc, set_at, length-take-le, drop-drop}
 use Rattle.octets.specs.Octets.{part, put}
 
 pub part_length : (n k : ℕ) (s : List ℕ) → k + n ≤ length s → length (part n k s) ≡ n
@@ -31,10 +31,6 @@ part-each n k s h =
     ∙ each-is (suc n) 0 k s (omega arith)
     ∙ ap (λ (j : ℕ). get_or s j 0 ∷ each n 1 k s) (add-zero k)
 
--- what is read off the octets at k, one by one, is read off the part
-pub read_as : (f : List ℕ → ℕ) (n k : ℕ) (s : List ℕ) {r : ℕ} → k + suc n ≤ length s → r ≡ f (get_or s k 0 ∷ each n 1 k s) → r ≡ f (part (suc n) k s)
-read_as f n k s h e = e ∙ sym (ap f (part-each n k s h))
-
 -- s with the octets of t stored behind the first i at k
 abbrev pub stored : List ℕ → ℕ → ℕ → List ℕ → List ℕ
 stored s k i [] = s
@@ -43,13 +39,6 @@ stored s k i (x ∷ t) = stored (set s (k + i) x) k (suc i) t
 stored_is : (t s : List ℕ) (k i : ℕ) → stored s k i t ≡ sets s (k + i) t
 stored_is [] s k i = refl
 stored_is (x ∷ t) s k i = stored_is t (set s (k + i) x) k (suc i) ∙ ap (λ (j : ℕ). sets (set s (k + i) x) j t) (add-suc k i)
-
-pub put-stored : (x : ℕ) (t s : List ℕ) (k : ℕ) → k + suc (length t) ≤ length s → stored (set s k x) k 1 t ≡ put k (x ∷ t) s
-put-stored x t s k h =
-    ap (λ (j : ℕ). stored (set s j x) k 1 t) (sym (add-zero k))
-    ∙ stored_is (x ∷ t) s k 0
-    ∙ ap (λ (j : ℕ). sets s j (x ∷ t)) (add-zero k)
-    ∙ sets-eq (x ∷ t) s k h
 
 -- y in the place of the m octets of s at k
 pub put-mid : (k m : ℕ) (s y : List ℕ) → m ≡ length y → take k s ++ (y ++ drop m (drop k s)) ≡ put k y s
@@ -63,9 +52,3 @@ pub over-more : (s t : List ℕ) (i : ℕ) → i < length s → i < length t →
 over-more s t i h k =
     rw (add-one, drop-cons t i 0, take-suc s i 0, append_snoc)
     (set_at (take i s) (get_or t i 0) (drop (suc i) t) (get_or s i 0) i (length-take-le i s (le_of_lt h)))
-
-pub over-all : (s t : List ℕ) (i : ℕ) → length s ≤ i → length t ≤ i → over s t i ≡ s
-over-all s t i h k = rw (take_all, drop_of_length-le t k) (append-nil s)
-
-pub over-length : (s t : List ℕ) (i : ℕ) → length s ≡ length t → i ≤ length s → length (over s t i) ≡ length t
-over-length s t i e h = simp (length-append, length-take, length-drop) (omega arith)

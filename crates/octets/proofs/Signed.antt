@@ -19,14 +19,6 @@ low n h = rw (lt-ltb n (2 ^ 31) h)
 high : (n : ℕ) → 2 ^ 31 ≤ n → to_z w32 n ≡ negsuc (2 ^ 32 - suc n)
 high n h = rw (le-ltb n (2 ^ 31) h)
 
-pub read_low : (x : ℕ) → x < 2 ^ 31 → to_z w32 x ≡ signed x
-read_low x h = low x h ∙ sym (rw (lt-ltb x 0x8000_0000 h))
-
-pub read-high : (x y : ℕ) → 2 ^ 31 ≤ x → y ≡ x → to_z w32 y ≡ signed x
-read-high x y h e =
-    let m : 2 ^ 32 - suc x ≡ 0xFFFF_FFFF - x = omega arith in
-    ap (to_z w32) e ∙ high x h ∙ ap negsuc m ∙ sym (rw (le-ltb x 0x8000_0000 h))
-
 below : (x : ℤ) → SFits w32 x → lt_z x (pos 0) ≡ true → to_z w32 (0xFFFF_FFFF - of_z w32 x) ≡ pos (0xFFFF_FFFF - unsigned x)
 below (pos n) f e = absurd (omega (arith, ltb-true n 0 e))
 below (negsuc n) f e =

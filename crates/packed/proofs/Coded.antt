@@ -28,7 +28,8 @@ cut-front (suc n) w s t h =
     let e : suc n * w ≡ n * w + w = suc-mul n w in
     let k : w ≤ length s = omega (arith, e) in
     let m : n * w ≤ length (drop w s) = omega (arith, e, length-dropped w s) in
-    ap₂ (λ (x : List ℕ) (y : List (List ℕ)). x ∷ y) (take-append-le w s t k) (ap (cut n w) (drop-append-le w s t k) ∙ cut-front n w (drop w s) t m)
+    ap₂ (λ (x : List ℕ) (y : List (List ℕ)). x ∷ y) (take-append-le w s t k)
+    (ap (cut n w) (drop-append-le w s t k) ∙ cut-front n w (drop w s) t m)
   where
     length-dropped : (j : ℕ) (l : List ℕ) → length l ≤ j + length (drop j l)
     length-dropped zero l = omega arith
@@ -37,7 +38,8 @@ cut-front (suc n) w s t h =
 
 -- a list in which the first i elements are f of another list's
 module _ {A B : Type 0} (f : A → B) (l : List A) where
-  pub filled_more : (e : List B) (i : ℕ) (d : A) (y : B) → i < length l → i < length e → take i e ≡ map f (take i l) → y ≡ f (get_or l i d) → take (i + 1) (set e i y) ≡ map f (take (i + 1) l)
+  pub filled_more : (e : List B) (i : ℕ) (d : A) (y : B) → i < length l → i < length e → take i e ≡ map f (take i l)
+      → y ≡ f (get_or l i d) → take (i + 1) (set e i y) ≡ map f (take (i + 1) l)
   filled_more e i d y h k q p =
       ap (λ (j : ℕ). take j (set e i y)) (add-one i)
       ∙ take-suc-set e i y k

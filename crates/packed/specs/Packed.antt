@@ -1,4 +1,5 @@
--- Listeners and sessions as 1280 octets that a host lends: sixteen listeners of 48, then sixteen sessions of 32. Numbers stand least significant octet first.
+-- Listeners and sessions as 1280 octets that a host lends: sixteen listeners of 48, then sixteen sessions of 32.
+-- Numbers stand least significant octet first.
 use Rattle.std.specs.Prelude.{ℕ, zero, suc, ◌+◌, ◌*◌, List, [], ◌∷◌, ◌++◌, map, cond, not, eqb, ltb, get_or, take, drop}
 use Rattle.octets.specs.Octets.{little, little_of, part, put}
 use Rattle.timing.specs.declared.Timing.{Timing}
@@ -7,6 +8,7 @@ use Rattle.session.specs.declared.Session.{Session}
 use Rattle.session.specs.declared.SessionState.{SessionState}
 use Rattle.session.specs.declared.SessionState.TheVariants.{Free, WaitingForReply, OwingConfirm, WithUser, WaitingForConfirm}
 use Rattle.session_table.specs.Table.{Tables}
+pub use Rattle.session.specs.Session.{state_number, timing_of}
 
 -- ---- octets that a host lends, taken for tables: every octet has a meaning
 
@@ -40,10 +42,10 @@ abbrev pub cut : ℕ → ℕ → List ℕ → List (List ℕ)
 cut zero w s = []
 cut (suc n) w s = take w s ∷ cut n w (drop w s)
 
-abbrev pub listeners_of : List ℕ → List Listener
+unfoldable pub listeners_of : List ℕ → List Listener
 listeners_of s = map listener_of (cut 16 48 s)
 
-abbrev pub sessions_of : List ℕ → List Session
+unfoldable pub sessions_of : List ℕ → List Session
 sessions_of s = map session_of (cut 16 32 s)
 
 abbrev pub tables_of : List ℕ → Tables
@@ -59,22 +61,6 @@ listener_octets l =
     ++ little_of 4 l.senders.start
     ++ little_of 4 l.senders.end
     ++ l.uri
-
--- 0 free, 1 waiting for reply, 2 owing a confirm, 3 with the user, 4 waiting for confirm
-abbrev pub state_number : SessionState → ℕ
-state_number Free = 0
-state_number (WaitingForReply t) = 1
-state_number (OwingConfirm t) = 2
-state_number (WithUser t) = 3
-state_number (WaitingForConfirm t) = 4
-
--- start and timeout of a waiting state; zeros of a free one
-abbrev pub timing_of : SessionState → Timing
-timing_of Free = record { start = 0; timeout = 0 }
-timing_of (WaitingForReply t) = t
-timing_of (OwingConfirm t) = t
-timing_of (WithUser t) = t
-timing_of (WaitingForConfirm t) = t
 
 -- state 1 and three zeros, timeout 4, start 8, identifier 16
 abbrev pub session_octets : Session → List ℕ

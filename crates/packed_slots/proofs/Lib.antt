@@ -1,3 +1,3 @@
 pub mod Places
-pub mod RuledOut
+pub mod Fields
 pub mod Left

@@ -1,11 +1,10 @@
--- What a call on listeners and sessions leaves in the 1280 octets that a host lends: the one record that it changed is written.
+-- What a call on listeners and sessions leaves in the 1280 octets that a host lends: the one record that it changed
+-- is written.
 use Rattle.std.specs.Prelude.{ℕ, zero, suc, ◌≡◌, cond, List, ℤ, get_or}
 use Rattle.session.specs.Listener.{free_listener}
 use Rattle.session.specs.Session.{free_session, is_up}
 use Rattle.session_table.specs.Table as table
 use Rattle.session_table.specs.Table.{Tables, Call, listen, unlisten, calling, telegram, reply, confirm, time_check, step}
-use Rattle.session_table.specs.Calls.{meaning}
-use Rattle.session_table.specs.declared.Answer.{Answer}
 use Rattle.packed.specs.Packed.{tables_of, put_listener, put_session}
 
 -- the slot that a call names
@@ -27,7 +26,9 @@ with_session k after octets = put_session k (get_or after.sessions k free_sessio
 
 -- session k is written, free, where its time is up; else its octets stay
 abbrev pub expired_at : ℕ → ℕ → List ℕ → List ℕ
-expired_at time k octets = cond (is_up time (get_or (tables_of octets).sessions k free_session).state) (put_session k free_session octets) octets
+expired_at time k octets =
+    cond (is_up time (get_or (tables_of octets).sessions k free_session).state) (put_session k free_session octets)
+    octets
 
 -- the first n sessions, one after the other
 unfoldable pub expired_in : ℕ → ℕ → List ℕ → List ℕ
@@ -44,7 +45,8 @@ time_of (reply k type timeout time) = 0
 time_of (confirm k) = 0
 time_of (time_check time) = time
 
--- the octets after call c: one record is written, in the slot that the answer or the call names; a notification and a refusal write nothing; a time check writes the sessions that it freed
+-- the octets after call c: one record is written, in the slot that the answer or the call names; a notification and a
+-- refusal write nothing; a time check writes the sessions that it freed
 abbrev pub left_by : Call → table.Answer → Tables → List ℕ → List ℕ
 left_by c (table.listening k) after octets = with_listener k after octets
 left_by c table.freed after octets = with_listener (named c) after octets
@@ -61,9 +63,9 @@ left_by c (table.refused r status) after octets = octets
 abbrev pub octets_after : Call → List ℕ → List ℕ
 octets_after c octets = let o = step c (tables_of octets) in left_by c o.answer o.after octets
 
--- a call over lent octets: its answer and the tables that the octets mean after it are those of the rules
-pub record Follows (c : Call) (octets : List ℕ) (a : Answer) (octets' : List ℕ) : Type 0 where
-  pub answers : meaning a ≡ (step c (tables_of octets)).answer
+-- a call over lent octets: what it answers and the tables that the octets mean after it are those of the rules
+pub record Follows (c : Call) (octets : List ℕ) (a : table.Answer) (octets' : List ℕ) : Type 0 where
+  pub answers : a ≡ (step c (tables_of octets)).answer
   pub means : tables_of octets' ≡ (step c (tables_of octets)).after
   pub leaves : octets' ≡ octets_after c octets
 

@@ -1,187 +1,142 @@
 // One listener or one session of the octets: read, written, and sought, with no other unpacked or written.
 #![tactic(auto)]
 
-ghost use Rattle.std.specs.Prelude.{◌≡◌, not, ◌&&◌, eqb, ◌<◌, length, get_or};
+ghost use Rattle.std.specs.Prelude.{◌≡◌, not, ◌<◌, get_or};
 ghost use Rattle.tables.specs.Lists.{lowest};
-ghost use Rattle.session_table.specs.Sought.{found_of, listener_sought_by, sought_by};
-ghost use Rattle.session.specs.Listener.{free_listener};
-ghost use Rattle.session.specs.Session.{free_session};
+ghost use Rattle.session_table.specs.Sought.{found_of};
+ghost use Rattle.session.specs.Listener.{free_listener, hears, holds};
+ghost use Rattle.session.specs.Session.{free_session, is_free, has, can_take, waits_of};
 ghost use Rattle.packed.specs.Packed.{tables_of};
-ghost use Rattle.packed_slots.specs.Slots.{PutsListener, PutsSession, Places, ruled_out, state_in_use, state_ruled_out};
+ghost use Rattle.packed_slots.specs.Slots.{PutsListener, PutsSession, Places, used_for};
 
-use session::{Listener, Session, SessionState};
-use session_table::{Found, ListenerSought, Place, Sought};
+use octets::Number;
+use packed::{LISTENER, OCTETS, SESSION, SESSIONS, SLOTS};
+use refusal::Refusal;
+use session::{Listener, Session, SessionState, Waits};
+
+// Reading and writing stand twice, for sessions and for listeners: one function over a trait of records is no plainer,
+// since the trait's place, width, unpacking, packing and laws are longer than the four functions.
 
 // The session of a slot; a slot too large is a free one.
-pub fn session_at(octets: &[u8], k: usize) -> Session
-    requires { length octets.now ≡ 1280 }
+pub fn session_at(octets: &[u8; OCTETS], k: usize) -> Session
     ensures { result ≡ get_or (tables_of octets.now).sessions k free_session }
 {
-    if k < 16 {
-        let a = 768 + k * 32;
-        let e = a + 32;
-        return packed::unpack_session(&octets[a..e]);
+    if k >= SLOTS {
+        return Session::free();
     }
-    session::no_session()
+    let at = SESSIONS + k * SESSION;
+    packed::unpack_session(&octets[at..at + SESSION])
 }
 
 // The listener of a slot; a slot too large is a free one.
-pub fn listener_at(octets: &[u8], k: usize) -> Listener
-    requires { length octets.now ≡ 1280 }
+pub fn listener_at(octets: &[u8; OCTETS], k: usize) -> Listener
     ensures { result ≡ get_or (tables_of octets.now).listeners k free_listener }
 {
-    if k < 16 {
-        let a = k * 48;
-        let e = a + 48;
-        return packed::unpack_listener(&octets[a..e]);
+    if k >= SLOTS {
+        return Listener::free();
     }
-    session::no_listener()
+    let at = k * LISTENER;
+    packed::unpack_listener(&octets[at..at + LISTENER])
 }
 
 // Another session in a slot; all other octets stay.
-pub fn put_session(octets: &mut [u8], k: usize, x: Session)
-    requires { length octets.old ≡ 1280 }
+pub fn put_session(octets: &mut [u8; OCTETS], k: usize, x: Session)
     ensures { PutsSession k x octets.old octets.new }
 {
-    if k < 16 {
-        let first = 768 + k * 32;
-        let behind = first + 32;
-        packed::pack_session(x, &mut octets[first..behind]);
+    if k < SLOTS {
+        let at = SESSIONS + k * SESSION;
+        packed::pack_session(x, &mut octets[at..at + SESSION]);
     }
 }
 
 // Another listener in a slot; all other octets stay.
-pub fn put_listener(octets: &mut [u8], k: usize, l: Listener)
-    requires { length octets.old ≡ 1280 }
+pub fn put_listener(octets: &mut [u8; OCTETS], k: usize, l: Listener)
     ensures { PutsListener k l octets.old octets.new }
 {
-    if k < 16 {
-        let first = k * 48;
-        let behind = first + 48;
-        packed::pack_listener(l, &mut octets[first..behind]);
+    if k < SLOTS {
+        let at = k * LISTENER;
+        packed::pack_listener(l, &mut octets[at..at + LISTENER]);
     }
 }
 
-// A listener, in use or not, is not one in use with the ComId that is sought.
-fn is_other(used: bool, com_id: u32, sought: u32) -> bool
-    ensures { result ≡ not (used && eqb com_id sought) }
+// The listener of a slot is in use with this ComId; no more than these is looked at.
+fn is_used_for(octets: &[u8; OCTETS], k: usize, com_id: u32) -> bool
+    requires { k < 16 }
+    ensures { result ≡ used_for com_id (get_or (tables_of octets.now).listeners k free_listener) }
 {
-    if used {
-        return com_id != sought;
-    }
-    true
+    let at = k * LISTENER;
+    octets[at] != 0 && u32::little(octets, at + 4) == com_id
 }
 
-// A listener, in use or not and with this ComId, is none that is sought.
-fn is_ruled_out(w: ListenerSought, used: bool, com_id: u32) -> bool
-    ensures { result ≡ ruled_out w used com_id }
+// The lowest free listener.
+pub fn find_free_listener(octets: &[u8; OCTETS]) -> Option<usize>
+    ensures { result ≡ found_of (lowest (λ l. not l.used) (tables_of octets.now).listeners) }
 {
-    match w {
-        ListenerSought::Vacant => used,
-        ListenerSought::Hearing(sought, _) => is_other(used, com_id, sought),
-        ListenerSought::Holding(sought, _) => is_other(used, com_id, sought),
-    }
+    (0..SLOTS).find(|&k| octets[k * LISTENER] == 0)
 }
 
-// The listener of a slot is one that is sought. It is unpacked only where its first octet and its ComId do not rule it out.
-fn is_listener_at(octets: &[u8], k: usize, w: ListenerSought, uri: &[u8]) -> bool
-    requires octets_len { length octets.now ≡ 1280 }
-    requires k_bound { k < 16 }
-    ensures { result ≡ listener_sought_by w uri.now (get_or (tables_of octets.now).listeners k free_listener) }
+// The lowest listener that hears a telegram.
+pub fn find_hearing(
+    octets: &[u8; OCTETS],
+    com_id: u32,
+    sender: u32,
+    destination: &[u8],
+) -> Option<usize>
+    ensures { result ≡ found_of (lowest (hears com_id sender destination.now) (tables_of octets.now).listeners) }
 {
-    let at = k * 48;
-    let used = octets[at] != 0;
-    let com_id = octets::little4(octets, at + 4);
-    if is_ruled_out(w, used, com_id) {
-        return false;
-    }
-    let l = listener_at(octets, k);
-    session_table::is_listener_sought(l, w, uri)
+    (0..SLOTS).find(|&k| {
+        is_used_for(octets, k, com_id) && listener_at(octets, k).hears(com_id, sender, destination)
+    })
 }
 
-// The lowest listener that is sought.
-pub fn find_listener(octets: &[u8], w: ListenerSought, uri: &[u8]) -> Found
-    requires { length octets.now ≡ 1280 }
-    ensures { result ≡ found_of (lowest (listener_sought_by w uri.now) (tables_of octets.now).listeners) }
+// The lowest listener with the same filter.
+pub fn find_holding(octets: &[u8; OCTETS], l: &Listener) -> Option<usize>
+    ensures { result ≡ found_of
+        (lowest (holds l.now.com_id l.now.senders l.now.uri) (tables_of octets.now).listeners) }
 {
-    let mut i: usize = 0;
-    while i < 16 {
-        if is_listener_at(octets, i, w, uri) {
-            return Found::At(i);
-        }
-        i += 1;
-    }
-    Found::Nothing
+    (0..SLOTS).find(|&k| {
+        is_used_for(octets, k, l.com_id)
+            && listener_at(octets, k).holds(l.com_id, l.senders, &l.uri)
+    })
 }
 
-// The number of a session's state says that it is in use.
-fn is_state_in_use(n: u8) -> bool
-    ensures { result ≡ state_in_use n }
+// The session of a slot is in use; no more than the number of its state is looked at.
+fn is_in_use(octets: &[u8; OCTETS], k: usize) -> bool
+    requires { k < 16 }
+    ensures { result ≡ not (is_free (get_or (tables_of octets.now).sessions k free_session).state) }
 {
-    if 1 <= n {
-        return n <= 4;
-    }
-    false
+    matches!(octets[SESSIONS + k * SESSION], 1..=4)
 }
 
-// A session with this number of its state is none that is sought.
-fn is_state_ruled_out(w: Sought, n: u8) -> bool
-    ensures { result ≡ state_ruled_out w n }
+// The lowest free session.
+pub fn find_free_session(octets: &[u8; OCTETS]) -> Option<usize>
+    ensures { result ≡ found_of (lowest (λ x. is_free x.state) (tables_of octets.now).sessions) }
 {
-    let used = is_state_in_use(n);
-    match w {
-        Sought::Vacant => used,
-        Sought::InUse => !used,
-        Sought::Waiting(_) => !used,
-    }
+    (0..SLOTS).find(|&k| !is_in_use(octets, k))
 }
 
-// The session of a slot is one that is sought. It is unpacked only where the number of its state does not rule it out.
-fn is_session_at(octets: &[u8], k: usize, id: [u8; 16], w: Sought) -> bool
-    requires octets_len { length octets.now ≡ 1280 }
-    requires k_bound { k < 16 }
-    ensures { result ≡ sought_by w id (get_or (tables_of octets.now).sessions k free_session) }
+// The lowest session in use with this identifier.
+pub fn find_session(octets: &[u8; OCTETS], id: [u8; 16]) -> Option<usize>
+    ensures { result ≡ found_of (lowest (has id) (tables_of octets.now).sessions) }
 {
-    let at = 768 + k * 32;
-    if is_state_ruled_out(w, octets[at]) {
-        return false;
-    }
-    let x = session_at(octets, k);
-    session_table::is_sought(x, id, w)
+    (0..SLOTS).find(|&k| is_in_use(octets, k) && session_at(octets, k).has(id))
 }
 
-// The lowest session that is sought.
-pub fn find_session(octets: &[u8], id: [u8; 16], w: Sought) -> Found
-    requires { length octets.now ≡ 1280 }
-    ensures { result ≡ found_of (lowest (sought_by w id) (tables_of octets.now).sessions) }
+// The lowest session of this identifier that can take what it waits for.
+pub fn find_waiting(octets: &[u8; OCTETS], id: [u8; 16], w: Waits) -> Option<usize>
+    ensures { result ≡ found_of (lowest (can_take (waits_of w) id) (tables_of octets.now).sessions) }
 {
-    let mut i: usize = 0;
-    while i < 16 {
-        if is_session_at(octets, i, id, w) {
-            return Found::At(i);
-        }
-        i += 1;
-    }
-    Found::Nothing
+    (0..SLOTS).find(|&k| is_in_use(octets, k) && session_at(octets, k).can_take(id, w))
 }
 
-// The lowest free session is opened, unless the identifier is in use or none is free.
-pub fn open(octets: &mut [u8], id: [u8; 16], state: SessionState) -> Place
-    requires { length octets.old ≡ 1280 }
+// The lowest free session is opened, unless the identifier is in use or none is free: 17, 18.
+pub fn open(octets: &mut [u8; OCTETS], id: [u8; 16], state: SessionState) -> Result<usize, Refusal>
     ensures { Places id state octets.old result octets.new }
 {
-    let used = find_session(octets, id, Sought::InUse);
-    if session_table::is_found(used) {
-        return Place::InUse;
+    if find_session(octets, id).is_some() {
+        return Err(Refusal::SessionInUse);
     }
-    let f = find_session(octets, id, Sought::Vacant);
-    let Found::At(k) = f else {
-        return Place::Full;
-    };
-    let x = Session {
-        id: id,
-        state: state,
-    };
-    put_session(octets, k, x);
-    Place::Slot(k)
+    let k = find_free_session(octets).ok_or(Refusal::NoFreeSession)?;
+    put_session(octets, k, Session { id, state });
+    Ok(k)
 }

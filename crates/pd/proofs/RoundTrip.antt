@@ -19,7 +19,8 @@ use Rattle.telegram.proofs.Writing.{granted}
 use Rattle.telegram.proofs.RoundTrip.{InRange, with_length, common-back, dataset-back, bigs, common-again, telegram-again}
 use Rattle.telegram.proofs.Passing.{granted-passes, sound-granted}
 use Rattle.pd.specs.declared.PdHeader.{PdHeader}
-use Rattle.pd.specs.declared.PdTaken.TheVariants.{Header, Refused}
+use Rattle.std.specs.Prelude.{Ok, Result}
+use Rattle.refusal.specs.declared.Refusal.{Refusal}
 use Rattle.pd.specs.Pd.{header_of, take_pd, front_of, frame_of, write_checks_pd}
 use Rattle.pd.proofs.Taken.{taken}
 
@@ -56,14 +57,14 @@ header-back h r s k =
     )
 
 -- taking apart what was written gives the fields back, for every header that the writer grants
-pub written-reads-back : (h : PdHeader) → PdInRange h → (s : List ℕ) (room : ℕ) → first_of (write_checks_pd h (length s) room) ≡ 0
-    → take_pd (frame_of h s) ≡ Header (read_back h (length s))
+pub written-reads-back : (h : PdHeader) → PdInRange h → (s : List ℕ) (room : ℕ) → first_of (write_checks_pd h (length s) room) ≡ Ok tt
+    → take_pd (frame_of h s) ≡ Ok (read_back h (length s))
 written-reads-back h r s room e =
     let g = granted family.Pd h.common (length s) true room e in
     let n : length s < 2 ^ 32 = omega (arith, g.limit) in
-    ap (λ (v : ℕ). answer Header Refused v (header_of (frame_of h s)))
+    ap (λ (v : Result (Unit {0}) Refusal). answer v (header_of (frame_of h s)))
     (granted-passes family.Pd h.common (front_of h (length s)) s true room refl (common-frame h r s n) g)
-    ∙ ap Header (header-back h r s n)
+    ∙ ap Ok (header-back h r s n)
 
 -- and the dataset
 pub written-dataset-back : (h : PdHeader) → PdInRange h → (s : List ℕ) → length s ≤ 1432 → dataset_of family.Pd (frame_of h s) ≡ s
@@ -72,7 +73,7 @@ written-dataset-back h r s k =
     ∙ dataset-back (front_of h (length s)) s 36 refl
 
 -- a datagram taken apart, written again, is the same but for padding
-pub taken-writes-back : (d : List ℕ) (h : PdHeader) → Octets d → take_pd d ≡ Header h
+pub taken-writes-back : (d : List ℕ) (h : PdHeader) → Octets d → take_pd d ≡ Ok h
     → frame_of h (dataset_of family.Pd d) ≡ take (40 + h.common.dataset_length) d ++ replicate (padded h.common.dataset_length - h.common.dataset_length) 0
 taken-writes-back d h o e =
     let t = taken d h e in
@@ -90,8 +91,8 @@ taken-writes-back d h o e =
     ∙ ap (λ (x : PdHeader). take (40 + x.common.dataset_length) d ++ replicate (padded x.common.dataset_length - x.common.dataset_length) 0) t.1
 
 -- the writer grants what was taken apart, where there is room for it
-pub taken-is-granted : (d : List ℕ) (h : PdHeader) (room : ℕ) → take_pd d ≡ Header h → length d ≤ room
-    → first_of (write_checks_pd h (length (dataset_of family.Pd d)) room) ≡ 0
+pub taken-is-granted : (d : List ℕ) (h : PdHeader) (room : ℕ) → take_pd d ≡ Ok h → length d ≤ room
+    → first_of (write_checks_pd h (length (dataset_of family.Pd d)) room) ≡ Ok tt
 taken-is-granted d h room e k =
     let t = taken d h e in
     let w = whole family.Pd d t.0 in

@@ -1,12 +1,11 @@
 -- The PD header of 40 octets: taken apart, and written.
-use Rattle.std.specs.Prelude.{ℕ, List, ◌++◌, true, length}
+use Rattle.std.specs.Prelude.{ℕ, List, ◌++◌, true, length, Result}
 use Rattle.refusal.specs.Refusal.{Check, first_of, answer}
 use Rattle.octets.specs.Octets.{big, big_of, part}
 use Rattle.telegram.specs.Telegram.{common_of, header_checks, checks, write_checks, common_octets, telegram_of}
 use Rattle.telegram.specs.declared.Family.TheVariants as family
 use Rattle.pd.specs.declared.PdHeader.{PdHeader}
-use Rattle.pd.specs.declared.PdTaken.{PdTaken}
-use Rattle.pd.specs.declared.PdTaken.TheVariants.{Header, Refused}
+use Rattle.refusal.specs.declared.Refusal.{Refusal}
 
 -- reserved 4 at 24, replyComId 4 at 28, replyIpAddress 4 at 32
 abbrev pub header_of : List ℕ → PdHeader
@@ -18,18 +17,13 @@ header_of d =
       reply_ip_address = big (part 4 32 d);
     }
 
--- document 01's number of an answer; 0 of a header
-abbrev pub refusal_of : PdTaken → ℕ
-refusal_of (Header h) = 0
-refusal_of (Refused r) = r
-
 -- a header judged before its datagram is whole
-abbrev pub take_header : List ℕ → PdTaken
-take_header d = answer Header Refused (first_of (header_checks family.Pd d)) (header_of d)
+abbrev pub take_header : List ℕ → Result PdHeader Refusal
+take_header d = answer (first_of (header_checks family.Pd d)) (header_of d)
 
 -- a datagram taken apart: checks 2 to 6
-abbrev pub take_pd : List ℕ → PdTaken
-take_pd d = answer Header Refused (first_of (checks family.Pd d)) (header_of d)
+abbrev pub take_pd : List ℕ → Result PdHeader Refusal
+take_pd d = answer (first_of (checks family.Pd d)) (header_of d)
 
 -- the first 36 octets of a header, before a dataset of n octets
 abbrev pub front_of : PdHeader → ℕ → List ℕ

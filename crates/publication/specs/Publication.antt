@@ -1,12 +1,13 @@
 -- A push publication: when it is due, and what a sending leaves.
-use Rattle.std.specs.Prelude.{◌≡◌, ℕ, ◌+◌, ◌%◌, ◌^◌, Bool, not, ◌||◌, List, ◌∷◌, ◌==◌}
-use Rattle.refusal.specs.Refusal.{Check, ◌when◌, after, not_due}
+use Rattle.std.specs.Prelude.{◌≡◌, ℕ, ◌+◌, ◌%◌, ◌^◌, Bool, not, ◌||◌, List, ◌∷◌, ◌==◌, Result}
+use Rattle.refusal.specs.Refusal.{Check, ◌when◌, after}
+use Rattle.refusal.specs.declared.Refusal.{Refusal}
+use Rattle.refusal.specs.declared.Refusal.TheVariants as refusal
 use Rattle.timing.specs.Timing.{passed}
 use Rattle.telegram.specs.Telegram.{Wrote}
 use Rattle.pd.specs.declared.PdHeader.{PdHeader}
 use Rattle.pd.specs.Pd.{write_checks_pd, frame_of}
 use Rattle.publication.specs.declared.Publication.{Publication}
-use Rattle.publication.specs.declared.Sent.{Sent}
 
 -- a header with another sequence counter
 abbrev pub counted : PdHeader → ℕ → PdHeader
@@ -37,7 +38,7 @@ due p time = p.sent == 0 || passed p.last_sent p.cycle time
 
 -- 14, then the writer's
 abbrev pub send_checks : Publication → ℕ → ℕ → ℕ → List Check
-send_checks p time n room = not_due when not (due p time) ∷ write_checks_pd p.header n room
+send_checks p time n room = refusal.NotDue when not (due p time) ∷ write_checks_pd p.header n room
 
 -- after FFFFFFFF comes 0
 abbrev pub next_counter : ℕ → ℕ
@@ -53,7 +54,8 @@ sent_at p time =
       last_sent = time;
     }
 
--- what a sending answers and leaves, refusal being the first of its checks that is given, or 0
-pub record Sends (refusal : ℕ) (p : Publication) (time : ℕ) (dataset before : List ℕ) (s : Sent) (target : List ℕ) : Type 0 where
-  pub writes : Wrote refusal (frame_of p.header dataset) before s.answer target
-  pub leaves : s.publication ≡ after refusal (sent_at p time) p
+-- what a sending answers and leaves, judged by its checks
+pub record Sends (judged : Result (Unit {0}) Refusal) (p : Publication) (time : ℕ) (dataset before : List ℕ)
+    (answer : Result ℕ Refusal) (publication : Publication) (target : List ℕ) : Type 0 where
+  pub writes : Wrote judged (frame_of p.header dataset) before answer target
+  pub leaves : publication ≡ after judged (sent_at p time) p

@@ -1,6 +1,8 @@
 -- Scalar types, and scalars turned round.
 use Rattle.std.specs.Prelude.{ℕ, zero, suc, ◌+◌, List, [], ◌∷◌, ◌++◌, reverse, get_or}
 use Rattle.octets.specs.Octets.{part}
+use Rattle.scalars.specs.declared.Shape.{Shape}
+use Rattle.scalars.specs.declared.Shape.TheVariants.{Empty, One, Two, Four, Eight, FourTwo, FourFour}
 
 -- the octets of the types 1 to 16, in the parts that are turned round each by itself
 abbrev pub scalar_types : List (List ℕ)
@@ -33,12 +35,15 @@ abbrev pub size : List ℕ → ℕ
 size [] = 0
 size (k ∷ ks) = k + size ks
 
--- the parts in which scalars are turned round, by number
-abbrev pub shapes : List (List ℕ)
-shapes = [] ∷ (1 ∷ []) ∷ (2 ∷ []) ∷ (4 ∷ []) ∷ (8 ∷ []) ∷ (4 ∷ 2 ∷ []) ∷ (4 ∷ 4 ∷ []) ∷ []
-
-abbrev pub shape_parts : ℕ → List ℕ
-shape_parts k = get_or shapes k []
+-- the parts in which scalars of a shape are turned round
+abbrev pub parts : Shape → List ℕ
+parts Empty = []
+parts One = 1 ∷ []
+parts Two = 2 ∷ []
+parts Four = 4 ∷ []
+parts Eight = 8 ∷ []
+parts FourTwo = 4 ∷ 2 ∷ []
+parts FourFour = 4 ∷ 4 ∷ []
 
 -- a scalar of such parts at p, each part turned round
 abbrev pub turned_at : List ℕ → ℕ → List ℕ → List ℕ

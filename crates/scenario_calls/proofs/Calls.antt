@@ -1,107 +1,86 @@
--- A place that is not 0 says that a line was answered; one kind of line after another; a line that is not answered leaves the memory lent as it was.
+-- One kind of line after another; a line that is not answered leaves the memory lent as it was.
 -- Assumes nothing.
 use mathlib.Core.Path.{◌≡◌, refl, sym, ap, ap₂, ◌∙◌, subst}
 use mathlib.Core.Bool.{Bool, true, false, cond, ◌&&◌, true≢false}
 use mathlib.Core.List.{List, [], ◌∷◌}
 use mathlib.Core.Option.{Option, none, some}
-use Prim.Native.Nat.{ℕ, ◌+◌, ◌<◌, ◌≤◌}
+use Prim.Native.Nat.{ℕ}
 use native.Mathlib.Omega.{arith}
 use lib.Dec.{ltb, leb}
 use lib.ListN.{length, get_or, set, replicate}
-use Rattle.octets.specs.Octets.{put}
+use Rattle.std.specs.Prelude.{Some, None, Option as Maybe}
 use Rattle.topography.specs.declared.TopoCounts.{TopoCounts}
 use Rattle.subscription.specs.Record.{in_use, free_record}
 use Rattle.subscription_table.specs.Table.{Call}
 use Rattle.line.specs.declared.Field.{Field}
-use Rattle.answer.specs.Answer.{Room, room, put_piece, put_all, Puts, Answers, ascii, word, refused}
+use Rattle.answer.specs.Answer.{ascii, word, refused}
+use Rattle.answer.specs.declared.Room.{Room}
+use Rattle.answer.specs.Lent.{Fills}
+use Rattle.answer.specs.Said.{pieces_of, answered, Answered}
+use Rattle.answer.proofs.Rooms.{◌▹◌, filled_as}
+use Rattle.answer.proofs.Said.{nothing_put}
 use Rattle.line.proofs.Fields.{first-number, number_read}
-use Rattle.answer.proofs.Rooms.{piece-kept, answered, unanswered}
-use Rattle.answer.proofs.Rooms.{answered-as}
 use Rattle.line.specs.Line.{read_to, number_field, verb_is, ends, with_number, eight}
+use Rattle.publication.specs.declared.Publication.{Publication}
 use Rattle.scenario_wire.specs.Wire.{wire_answer}
-use Rattle.scenario_wire.specs.declared.publications.Held.{Held}
-use Rattle.scenario_wire.specs.declared.publications.Held.TheVariants.{Nothing}
-use Rattle.scenario_wire.specs.declared.publications.Outcome.{Outcome as PublicationOutcome}
 use Rattle.scenario_wire.specs.Publications as publications
-use Rattle.scenario_data.specs.declared.Outcome.{Outcome as DataOutcome}
 use Rattle.scenario_data.specs.Data as description
 use Rattle.statistics.specs.declared.Statistics.{Statistics}
 use Rattle.statistics.specs.Statistics.{no_statistics}
 use Rattle.subscription.specs.declared.Subscription.{Subscription}
 use Rattle.scenario_md.specs.Lines.{asked_of}
-use Rattle.scenario_md.specs.declared.Outcome.{Outcome as MessageOutcome}
 use Rattle.scenario_md.specs.Served as md
-use Rattle.scenario_pd_look.specs.declared.Slots.{Slots}
+use Rattle.lent.specs.declared.Slots.{Slots}
+use Rattle.lent.specs.Lent.{with_records}
 use Rattle.scenario_pd.specs.Effect as pd
 use Rattle.scenario_pd.specs.Lines as pd_lines
 use Rattle.scenario_pd_look.specs.Look.{look_answer}
 use Rattle.scenario_calls.specs.declared.State.{State}
-use Rattle.scenario_calls.specs.declared.Outcome.{Outcome}
-use Rattle.scenario_calls.specs.Calls.{at_start, Effect, first_of, or_else, saying, with_local, with_held, with_numbers, with_slots, with_tables, counters_in, local_effect, stats_effect, wire_effect, publication_effect, message_effect, data_effect, process_effect, plain_effect, described_effect, call_effect, effect_of, Leaves, Answered, words_of}
+use Rattle.scenario_calls.specs.Calls.{at_start, Effect, first_of, or_else, saying, with_local, with_held, with_numbers, with_slots, with_tables, counters_in, local_effect, stats_effect, wire_effect, publication_effect, message_effect, data_effect, process_effect, plain_effect, described_effect, call_effect, effect_of, given, Leaves, Answers}
 use Rattle.scenario_calls.specs.Counters.{statistics_words}
 
--- from a place that is not 0 and within the room a piece leads to one that is not 0
-piece-apart : (s : List ℕ) (r : Room) → 0 < r.at → r.at ≤ length r.octets → 0 < (put_piece s r).at
-unfolding put_piece
-piece-apart s r h b = go (leb (r.at + length s) (length r.octets))
-  where
-    go : (t : Bool) → 0 < (cond t (room (r.at + length s) (put r.at s r.octets)) (room (length r.octets) r.octets)).at
-    go true = omega arith
-    go false = omega arith
+-- what words there are, by the state that was given
+none-given : (ws : Option (List (List ℕ))) (x : State) → None ≡ given ws x → ws ≡ none
+none-given none x e = refl
+none-given (some ws) x e = grind arith
 
--- .. and so do pieces
-pub put_all-apart : (ss : List (List ℕ)) (r : Room) → 0 < r.at → r.at ≤ length r.octets → 0 < (put_all ss r).at
-put_all-apart [] r h b = h
-put_all-apart (s ∷ ss) r h b =
-    let k = piece-kept s r in
-    put_all-apart ss (put_piece s r) (piece-apart s r h b) (omega (arith, k))
+first-given : (ws : Option (List (List ℕ))) (x : State) {y : State} (e f : Effect) → Some y ≡ given ws x → first_of ws e f ≡ e
+first-given none x e f q = grind arith
+first-given (some ws) x e f q = refl
 
--- an answer made at such a place has a place that is 0 only where it has no words, and then the room is as it was
-module _ {at r : ℕ} {o o' : List ℕ} where
-  pub no_words : (ws : Option (List (List ℕ))) → Answers ws at o r o' → 0 < at → at ≤ length o → r ≡ 0 → ws ≡ none
-  no_words none a h b z = refl
-  no_words (some ss) a h b z =
-      let e : r ≡ (put_all ss (room at o)).at = ap (λ (m : Room). m.at) a.answers in
-      let k : 0 < (put_all ss (room at o)).at = put_all-apart ss (room at o) h b in
-      absurd (omega arith)
+state-given : (ws : Option (List (List ℕ))) {x y : State} → Some y ≡ given ws x → y ≡ x
+state-given none q = grind arith
+state-given (some ws) q = grind arith
 
-  pub room-kept : {ws : Option (List (List ℕ))} → Answers ws at o r o' → ws ≡ none → o' ≡ o
-  room-kept {ws} a e =
-      let n : Answers none at o r o' = answered-as (sym e) a in
-      ap (λ (m : Room). m.octets) n.answers
+-- a line of some verbs has words or not
+by-answer : (ws : Option (List (List ℕ))) {x : State} {u : Unit {0}} → Some u ≡ answered ws → Some x ≡ given ws x
+by-answer none q = grind arith
+by-answer (some ws) q = refl
 
-  is-first : (ws : Option (List (List ℕ))) (e f : Effect) → Answers ws at o r o' → 0 < r → first_of ws e f ≡ e
-  is-first none e f a h =
-      let z : r ≡ 0 = ap (λ (m : Room). m.at) a.answers in
-      absurd (omega arith)
-  is-first (some ss) e f a h = refl
+by-silence : (ws : Option (List (List ℕ))) (x : State) → None ≡ answered ws → None ≡ given ws x
+by-silence none x q = refl
+by-silence (some ws) x q = grind arith
 
--- one kind of line after another
-module _ {e : Effect} {at : ℕ} {o o' : List ℕ} {r : Outcome} {ds st : List ℕ} (x : Leaves e at o r ds st o') where
-  -- it was answered
-  pub first : (f : Effect) → 0 < r.at → Leaves (or_else e f) at o r ds st o'
-  first f h = subst (λ (z : Effect). Leaves z at o r ds st o') (sym (is-first e.words e f x.words h)) x
+-- it was answered
+pub first : {e : Effect} {a b : Room} {y : State} {ds st : List ℕ} → Leaves e a (Some y) ds st b → (f : Effect) → Leaves (or_else e f) a (Some y) ds st b
+first {e} {a} {b} {y} {ds} {st} x f = subst (λ (z : Effect). Leaves z a (Some y) ds st b) (sym (first-given e.words e.state e f x.state)) x
 
-  module _ (h : 0 < at) (b : at ≤ length o) (z : r.at ≡ 0) where
-    pub nothing_said : e.words ≡ none
-    nothing_said = no_words e.words x.words h b z
+module _ {e : Effect} {a b : Room} {ds st : List ℕ} (x : Leaves e a None ds st b) where
+  -- it was not: the next is made in the same room
+  pub next : {f : Effect} {r₂ : Maybe State} {ds₂ st₂ : List ℕ} {c : Room} → Leaves f b r₂ ds₂ st₂ c → Leaves (or_else e f) a r₂ ds₂ st₂ c
+  next {f} {r₂} {ds₂} {st₂} {c} y =
+      let n = none-given e.words e.state x.state in
+      let empty : Fills [] a b = subst (λ (ws : Option (List (List ℕ))). Fills (pieces_of ws) a b) n x.fills in
+      subst (λ (g : Effect). Leaves g a r₂ ds₂ st₂ c) (sym (ap (λ (ws : Option (List (List ℕ))). first_of ws e f) n))
+      (record { state = y.state; fills = empty ▹ y.fills; descriptions = y.descriptions; store = y.store })
 
-    pub still : at ≤ length o'
-    still = subst (λ (p : List ℕ). at ≤ length p) (sym (room-kept x.words nothing_said)) b
-
-    -- it was not: the next is made in the same room
-    pub next : {f : Effect} {r₂ : Outcome} {ds₂ st₂ o₂ : List ℕ} → Leaves f at o' r₂ ds₂ st₂ o₂ → Leaves (or_else e f) at o r₂ ds₂ st₂ o₂
-    next {f} {r₂} {ds₂} {st₂} {o₂} y =
-        subst (λ (g : Effect). Leaves g at o r₂ ds₂ st₂ o₂)
-        (sym (ap (λ (ws : Option (List (List ℕ))). first_of ws e f) nothing_said))
-        (subst (λ (p : List ℕ). Leaves f at p r₂ ds₂ st₂ o₂) (room-kept x.words nothing_said) y)
-
+module _ {e : Effect} {a b : Room} {r : Maybe State} {ds st : List ℕ} (x : Leaves e a r ds st b) where
   -- the same effect in other words; the same memory
-  pub in_words : {f : Effect} → f ≡ e → Leaves f at o r ds st o'
-  in_words q = subst (λ (z : Effect). Leaves z at o r ds st o') (sym q) x
+  pub in_words : {f : Effect} → f ≡ e → Leaves f a r ds st b
+  in_words q = subst (λ (z : Effect). Leaves z a r ds st b) (sym q) x
 
-  pub lent : {ds' st' : List ℕ} → ds' ≡ ds → st' ≡ st → Leaves e at o r ds' st' o'
-  lent p q = record { words = x.words; state = x.state; descriptions = p ∙ x.descriptions; store = q ∙ x.store }
+  pub lent : {ds' st' : List ℕ} → ds' ≡ ds → st' ≡ st → Leaves e a r ds' st' b
+  lent p q = record { state = x.state; fills = x.fills; descriptions = p ∙ x.descriptions; store = q ∙ x.store }
 
 abbrev is_some : {A : Type 0} → Option A → Bool
 is_some none = false
@@ -166,7 +145,7 @@ module _ (st : List ℕ) where
       let r = get_or t.records (eight k) free_record in
       either-kept (ends s n)
       (either-kept (ltb (eight k) 32 && in_use r)
-      (same (some (word "ok")) (pd.with_records (set t.records (eight k) (pd_lines.with_length (eight n) r)) t))
+      (same (some (word "ok")) (with_records (set t.records (eight k) (pd_lines.with_length (eight n) r)) t))
       (same (some (refused 10)) t))
       (same none t)
 
@@ -223,55 +202,42 @@ module _ (x : State) (ds st s : List ℕ) where
       first-stays (process_effect x ds st s).words process-stays (first-stays (data_effect x ds st s).words data-stays plain-stays)
 
 -- .. so does what a call left that was not answered
-module _ {e : Effect} {at : ℕ} {o o' : List ℕ} {r : Outcome} {ds st ds' st' : List ℕ} (l : Leaves e at o r ds' st' o') (s : Stays e ds st) (h : 0 < at) (b : at ≤ length o) (z : r.at ≡ 0) where
+module _ {e : Effect} {a b : Room} {ds st ds' st' : List ℕ} (l : Leaves e a None ds' st' b) (s : Stays e ds st) where
   pub kept : (ds' ≡ ds) × (st' ≡ st)
-  kept =
-      let k = s.stays (nothing_said l h b z) in
-      (l.descriptions ∙ k.0, l.store ∙ k.1)
+  kept = let k = s.stays (none-given e.words e.state l.state) in (l.descriptions ∙ k.0, l.store ∙ k.1)
 
 -- a line always has words
-has_words : (e : Effect) (w : List (List ℕ)) (x : State) (ds st : List ℕ) → (or_else e (saying (some w) x ds st)).words ≡ none → ⊥
-has_words e w x ds st = go e.words refl
-  where
-    go : (ws : Option (List (List ℕ))) → e.words ≡ ws → (first_of ws e (saying (some w) x ds st)).words ≡ none → ⊥
-    go none q n = some-not-none n
-    go (some ss) q n = some-not-none (sym q ∙ n)
-
-puts_of : {at r : ℕ} {o o' : List ℕ} (ws : Option (List (List ℕ))) → Answers ws at o r o' → (ws ≡ none → ⊥) → Puts (words_of ws) at o r o'
-puts_of none a h = absurd (h refl)
-puts_of (some ss) a h = record { puts = a.answers }
-
-pub always : (x : State) (ds st s : List ℕ) {at : ℕ} {o : List ℕ} {r : Outcome} {ds' st' o' : List ℕ} → Leaves (effect_of x ds st s) at o r ds' st' o' → Answered (effect_of x ds st s) at o r ds' st' o'
-unfolding effect_of
-always x ds st s l =
-    record {
-      words = puts_of (effect_of x ds st s).words l.words (has_words (call_effect x ds st s) (word "bad line") x ds st);
-      state = l.state;
-      descriptions = l.descriptions;
-      store = l.store;
-    }
+pub always : {e : Effect} {a b : Room} {y : State} {ds st : List ℕ} → Leaves e a (Some y) ds st b → Answers e a y ds st b
+always {e} l = record { state = state-given e.words l.state; fills = l.fills; descriptions = l.descriptions; store = l.store }
 
 -- how each kind of line leaves what its effect says
 module _ (x : State) (ds st s : List ℕ) where
   -- `local`, by its fields
   module _ (b f g : Field) (e₀ : b ≡ read_to 0 5) (e₁ : f ≡ number_field s b 8) (e₂ : g ≡ number_field s f 8) where
-    local-fields : (v : Bool) → ends s g ≡ v → local_effect x ds st s ≡ cond v (saying (some (word "ok")) (with_local (counters_in f g) x) ds st) (saying none x ds st)
+    local-fields : (v : Bool) → ends s g ≡ v
+        → local_effect x ds st s ≡ cond v (saying (some (word "ok")) (with_local (counters_in f g) x) ds st) (saying none x ds st)
     unfolding local_effect
     local-fields v e =
         first-number s b (read_to 0 5) f 8 _ e₀ e₁
         (number_read s f g 8 _ e₂
         (ap (λ (w : Bool). cond w (saying (some (word "ok")) (with_local (counters_in f g) x) ds st) (saying none x ds st)) e))
 
-    pub local-said : {at p : ℕ} {o o' : List ℕ} (m n : ℕ) → ends s g ≡ true → m ≡ eight f → n ≡ eight g → Puts (word "ok") at o p o' → Leaves (local_effect x ds st s) at o (record { state = with_local (record { etb_topo_cnt = m; op_trn_topo_cnt = n }) x; at = p }) ds st o'
+    pub local-said : {o o' : Room} (m n : ℕ) → ends s g ≡ true → m ≡ eight f → n ≡ eight g → Fills (word "ok") o o'
+        → Leaves (local_effect x ds st s) o (Some (with_local (record { etb_topo_cnt = m; op_trn_topo_cnt = n }) x)) ds st o'
     local-said m n e i j a =
         in_words {e = saying (some (word "ok")) (with_local (counters_in f g) x) ds st}
-        (record { words = answered a; state = ap₂ (λ (y z : ℕ). with_local (record { etb_topo_cnt = y; op_trn_topo_cnt = z }) x) i j; descriptions = refl; store = refl })
+        (record {
+          state = ap₂ (λ (y z : ℕ). Some (with_local (record { etb_topo_cnt = y; op_trn_topo_cnt = z }) x)) i j;
+          fills = a;
+          descriptions = refl;
+          store = refl;
+        })
         (local-fields true e)
 
-    pub local-bad : (at : ℕ) (o : List ℕ) → ends s g ≡ false → Leaves (local_effect x ds st s) at o (record { state = x; at = 0 }) ds st o
-    local-bad at o e =
+    pub local-bad : (o : Room) → ends s g ≡ false → Leaves (local_effect x ds st s) o None ds st o
+    local-bad o e =
         in_words {e = saying none x ds st}
-        (record { words = unanswered at o; state = refl; descriptions = refl; store = refl })
+        (record { state = refl; fills = nothing_put o; descriptions = refl; store = refl })
         (local-fields false e)
 
   module _ (b : Field) (e₀ : b ≡ read_to 0 5) where
@@ -280,55 +246,116 @@ module _ (x : State) (ds st s : List ℕ) where
     stats-words v e =
         ap (λ (w : Bool). saying (cond w (some (statistics_words x.statistics)) none) x ds st) (ap (ends s) (sym e₀) ∙ e)
 
-    pub stats-said : {at p : ℕ} {o o' : List ℕ} → ends s b ≡ true → Puts (statistics_words x.statistics) at o p o' → Leaves (stats_effect x ds st s) at o (record { state = x; at = p }) ds st o'
+    pub stats-said : {o o' : Room} → ends s b ≡ true → Fills (statistics_words x.statistics) o o'
+        → Leaves (stats_effect x ds st s) o (Some x) ds st o'
     stats-said e a =
         in_words {e = saying (some (statistics_words x.statistics)) x ds st}
-        (record { words = answered a; state = refl; descriptions = refl; store = refl })
+        (record { state = refl; fills = a; descriptions = refl; store = refl })
         (stats-words true e)
 
-    pub stats-bad : (at : ℕ) (o : List ℕ) → ends s b ≡ false → Leaves (stats_effect x ds st s) at o (record { state = x; at = 0 }) ds st o
-    stats-bad at o e =
+    pub stats-bad : (o : Room) → ends s b ≡ false → Leaves (stats_effect x ds st s) o None ds st o
+    stats-bad o e =
         in_words {e = saying none x ds st}
-        (record { words = unanswered at o; state = refl; descriptions = refl; store = refl })
+        (record { state = refl; fills = nothing_put o; descriptions = refl; store = refl })
         (stats-words false e)
 
-  pub wired : {at p : ℕ} {o o' : List ℕ} → Answers (wire_answer s) at o p o' → Leaves (wire_effect x ds st s) at o (record { state = x; at = p }) ds st o'
-  unfolding wire_effect
-  wired a = record { words = a; state = refl; descriptions = refl; store = refl }
+  -- telegrams and the frame check: answered, or not
+  module _ {o o' : Room} where
+    pub wired : {u : Unit {0}} → Answered (wire_answer s) o (Some u) o' → Leaves (wire_effect x ds st s) o (Some x) ds st o'
+    unfolding wire_effect
+    wired a = record { state = by-answer (wire_answer s) a.answers; fills = a.fills; descriptions = refl; store = refl }
 
-  pub published : {at : ℕ} {o o' : List ℕ} {q : PublicationOutcome} → publications.Publishes (publications.publication_said x.held s) x.held at o q o' → Leaves (publication_effect x ds st s) at o (record { state = with_held q.held x; at = q.at }) ds st o'
-  unfolding publication_effect
-  published a =
-      record { words = a.words; state = ap (λ (h : Held). with_held h x) a.publication; descriptions = refl; store = refl }
+    pub unwired : Answered (wire_answer s) o None o' → Leaves (wire_effect x ds st s) o None ds st o'
+    unfolding wire_effect
+    unwired a = record { state = by-silence (wire_answer s) _ a.answers; fills = a.fills; descriptions = refl; store = refl }
 
-  pub described : {at : ℕ} {o o' ds' : List ℕ} {q : DataOutcome} → description.Describes (description.data_said x.numbers ds s) x.numbers ds at o q ds' o' → Leaves (data_effect x ds st s) at o (record { state = with_numbers q.numbers x; at = q.at }) ds' st o'
-  unfolding data_effect
-  described a =
-      record { words = a.words; state = ap (λ (n : ℕ). with_numbers n x) a.counted; descriptions = a.lent; store = refl }
+-- a line that was answered gives the state that its effect says
+stated : (ws : Option (List (List ℕ))) {y z : State} {u : Unit {0}} → Some u ≡ answered ws → y ≡ z → Some y ≡ given ws z
+stated none q e = grind arith
+stated (some ws) q e = ap Some e
 
-  pub messaged : {at : ℕ} {t o o' : List ℕ} {q : MessageOutcome} → md.Answered (asked_of x.local s) x.tables x.statistics at o q t o' → Leaves (message_effect x ds st s) at o (record { state = with_tables t q.statistics x; at = q.at }) ds st o'
-  unfolding message_effect
-  messaged a =
-      record {
-        words = a.words;
-        state = ap₂ (λ (t : List ℕ) (n : Statistics). with_tables t n x) a.leaves a.statistics;
-        descriptions = refl;
-        store = refl;
-      }
+module _ (x : State) (ds st s : List ℕ) {o o' : Room} where
+  module _ {held : Maybe Publication} where
+    pub published : {u : Unit {0}} → publications.Publishes (publications.publication_said x.held s) x.held o (Some u) held o'
+        → Leaves (publication_effect x ds st s) o (Some (with_held held x)) ds st o'
+    unfolding publication_effect
+    published a =
+        record {
+          state = stated _ a.words.answers (ap (λ (h : Maybe Publication). with_held h x) a.publication);
+          fills = a.words.fills;
+          descriptions = refl;
+          store = refl;
+        }
 
-  pub processed : {at p : ℕ} {o o' st' : List ℕ} {t : Slots} {n : Statistics} → pd_lines.Answered x.local s x.slots st x.statistics at o t st' n p o' → Leaves (process_effect x ds st s) at o (record { state = with_slots t n x; at = p }) ds st' o'
-  unfolding process_effect
-  processed a =
-      record {
-        words = a.turns.words;
-        state = ap₂ (λ (t : Slots) (n : Statistics). with_slots t n x) a.turns.slots-after a.statistics-after;
-        descriptions = refl;
-        store = a.turns.store-after;
-      }
+    pub unpublished : publications.Publishes (publications.publication_said x.held s) x.held o None held o'
+        → Leaves (publication_effect x ds st s) o None ds st o'
+    unfolding publication_effect
+    unpublished a =
+        record {
+          state = by-silence (publications.words_of (publications.publication_said x.held s)) _ a.words.answers;
+          fills = a.words.fills;
+          descriptions = refl;
+          store = refl;
+        }
+
+  module _ {n : ℕ} {ds' : List ℕ} where
+    pub described : {u : Unit {0}} → description.Describes (description.data_said x.numbers ds s) x.numbers ds o (Some u) n ds' o'
+        → Leaves (data_effect x ds st s) o (Some (with_numbers n x)) ds' st o'
+    unfolding data_effect
+    described a =
+        record {
+          state = stated _ a.words.answers (ap (λ (m : ℕ). with_numbers m x) a.counted);
+          fills = a.words.fills;
+          descriptions = a.lent;
+          store = refl;
+        }
+
+    pub undescribed : description.Describes (description.data_said x.numbers ds s) x.numbers ds o None n ds' o'
+        → Leaves (data_effect x ds st s) o None ds' st o'
+    unfolding data_effect
+    undescribed a =
+        record {
+          state = by-silence (description.words_of (description.data_said x.numbers ds s)) _ a.words.answers;
+          fills = a.words.fills;
+          descriptions = a.lent;
+          store = refl;
+        }
+
+  module _ {t : List ℕ} {n : Statistics} where
+    pub messaged : {u : Unit {0}} → md.Answers (asked_of x.local s) x.tables x.statistics o (Some u) t n o'
+        → Leaves (message_effect x ds st s) o (Some (with_tables t n x)) ds st o'
+    unfolding message_effect
+    messaged a =
+        record {
+          state = stated _ a.words.answers (ap₂ (λ (u : List ℕ) (m : Statistics). with_tables u m x) a.leaves a.statistics);
+          fills = a.words.fills;
+          descriptions = refl;
+          store = refl;
+        }
+
+    pub unmessaged : md.Answers (asked_of x.local s) x.tables x.statistics o None t n o' → Leaves (message_effect x ds st s) o None ds st o'
+    unfolding message_effect
+    unmessaged a = record { state = by-silence _ _ a.words.answers; fills = a.words.fills; descriptions = refl; store = refl }
+
+  module _ {t : Slots} {n : Statistics} {st' : List ℕ} where
+    pub processed : {u : Unit {0}} → pd_lines.Answered x.local s x.slots st x.statistics o (Some u) t st' n o'
+        → Leaves (process_effect x ds st s) o (Some (with_slots t n x)) ds st' o'
+    unfolding process_effect
+    processed a =
+        record {
+          state = stated _ a.turns.words.answers (ap₂ (λ (u : Slots) (m : Statistics). with_slots u m x) a.turns.slots-after a.statistics-after);
+          fills = a.turns.words.fills;
+          descriptions = refl;
+          store = a.turns.store-after;
+        }
+
+    pub unprocessed : pd_lines.Answered x.local s x.slots st x.statistics o None t st' n o' → Leaves (process_effect x ds st s) o None ds st' o'
+    unfolding process_effect
+    unprocessed a = record { state = by-silence _ _ a.turns.words.answers; fills = a.turns.words.fills; descriptions = refl; store = a.turns.store-after }
 
 -- a bad line
-pub bad : (x : State) (ds st : List ℕ) {at p : ℕ} {o o' : List ℕ} → Puts (word "bad line") at o p o' → Leaves (saying (some (word "bad line")) x ds st) at o (record { state = x; at = p }) ds st o'
-bad x ds st a = record { words = answered a; state = refl; descriptions = refl; store = refl }
+pub bad : (x : State) (ds st : List ℕ) {o o' : Room} → Fills (word "bad line") o o' → Leaves (saying (some (word "bad line")) x ds st) o (Some x) ds st o'
+bad x ds st a = record { state = refl; fills = a; descriptions = refl; store = refl }
 
 -- before the first line
 slots-are : {t : Slots} {rs : List Subscription} {m n : ℕ} → (t.records ≡ rs) × (t.lent ≡ m) × (t.octets ≡ n) → t ≡ record { records = rs; lent = m; octets = n }
@@ -336,10 +363,10 @@ slots-are {t} {rs} {m} x =
     ap (λ (r : List Subscription). record { records = r; lent = t.lent; octets = t.octets }) x.0
     ∙ ap₂ (λ (l o : ℕ). record { records = rs; lent = l; octets = o }) x.1 x.2
 
-pub started : {t : Slots} {n : Statistics} → (t.records ≡ replicate 40 free_record) × (t.lent ≡ 32) × (t.octets ≡ 45824) → n ≡ no_statistics → record { local = record { etb_topo_cnt = 0; op_trn_topo_cnt = 0 }; held = Nothing; numbers = 0; slots = t; tables = replicate 1280 0; statistics = n } ≡ at_start
+pub started : {t : Slots} {n : Statistics} → (t.records ≡ replicate 40 free_record) × (t.lent ≡ 32) × (t.octets ≡ 45824) → n ≡ no_statistics → record { local = record { etb_topo_cnt = 0; op_trn_topo_cnt = 0 }; held = None; numbers = 0; slots = t; tables = replicate 1280 0; statistics = n } ≡ at_start
 unfolding at_start
 started x z =
-    ap₂ (λ (t : Slots) (n : Statistics). record { local = record { etb_topo_cnt = 0; op_trn_topo_cnt = 0 }; held = Nothing; numbers = 0; slots = t; tables = replicate 1280 0; statistics = n }) (slots-are x) z
+    ap₂ (λ (t : Slots) (n : Statistics). record { local = record { etb_topo_cnt = 0; op_trn_topo_cnt = 0 }; held = None; numbers = 0; slots = t; tables = replicate 1280 0; statistics = n }) (slots-are x) z
 
 -- by the verb
 module _ (x : State) (ds st s : List ℕ) where

@@ -1,5 +1,5 @@
 -- A line's answer, and what it leaves to the next: the state, the description run's memory and the store.
-use Rattle.std.specs.Prelude.{ℕ, ◌≡◌, cond, List, [], replicate}
+use Rattle.std.specs.Prelude.{ℕ, ◌≡◌, cond, List, [], replicate, Some, None, Option as Maybe}
 use Rattle.std.proofs.Math.Option.{Option, none, some}
 use Rattle.topography.specs.declared.TopoCounts.{TopoCounts}
 use Rattle.statistics.specs.declared.Statistics.{Statistics}
@@ -8,18 +8,19 @@ use Rattle.subscription.specs.Record.{free_record}
 use Rattle.packed.specs.Packed.{tables_of}
 use Rattle.line.specs.declared.Field.{Field}
 use Rattle.line.specs.Line.{read_to, verb_is, ends, with_end, with_number, eight}
-use Rattle.answer.specs.Answer.{ascii, word, Puts, Answers}
+use Rattle.answer.specs.Answer.{ascii, word}
+use Rattle.answer.specs.declared.Room.{Room}
+use Rattle.answer.specs.Lent.{Fills}
+use Rattle.answer.specs.Said.{pieces_of}
+use Rattle.publication.specs.declared.Publication.{Publication}
 use Rattle.scenario_wire.specs.Wire.{wire_answer}
-use Rattle.scenario_wire.specs.declared.publications.Held.{Held}
-use Rattle.scenario_wire.specs.declared.publications.Held.TheVariants.{Nothing}
 use Rattle.scenario_wire.specs.Publications as publications
 use Rattle.scenario_data.specs.Data as description
-use Rattle.scenario_pd_look.specs.declared.Slots.{Slots}
+use Rattle.lent.specs.declared.Slots.{Slots}
 use Rattle.scenario_pd.specs.Lines as pd
 use Rattle.scenario_md.specs.Lines.{asked_of}
 use Rattle.scenario_md.specs.Served as md
 use Rattle.scenario_calls.specs.declared.State.{State}
-use Rattle.scenario_calls.specs.declared.Outcome.{Outcome}
 use Rattle.scenario_calls.specs.Counters.{statistics_words}
 
 -- before the first line: counters 0 and 0, no publication, an empty description run; 32 slots lent of 40 free ones and 1432 octets for each; the octets of
@@ -28,7 +29,7 @@ unfoldable pub at_start : State
 at_start =
     record {
       local = record { etb_topo_cnt = 0; op_trn_topo_cnt = 0 };
-      held = Nothing;
+      held = None;
       numbers = 0;
       slots = record { records = replicate 40 free_record; lent = 32; octets = 45824 };
       tables = replicate 1280 0;
@@ -55,7 +56,7 @@ abbrev pub with_local : TopoCounts → State → State
 with_local l x =
     record { local = l; held = x.held; numbers = x.numbers; slots = x.slots; tables = x.tables; statistics = x.statistics }
 
-abbrev pub with_held : Held → State → State
+abbrev pub with_held : Maybe Publication → State → State
 with_held h x =
     record { local = x.local; held = h; numbers = x.numbers; slots = x.slots; tables = x.tables; statistics = x.statistics }
 
@@ -153,21 +154,21 @@ module _ (x : State) (descriptions store : List ℕ) where
   unfoldable pub effect_of : List ℕ → Effect
   effect_of s = or_else (call_effect s) (saying (some (word "bad line")) x descriptions store)
 
--- a line's answer is put at a place of a room, or it has none; state and memory are left as its effect says
-pub record Leaves (e : Effect) (at : ℕ) (before : List ℕ) (r : Outcome) (run octets after : List ℕ) : Type 0 where
-  pub words : Answers e.words at before r.at after
-  pub state : r.state ≡ e.state
+-- the state after a line that has words
+abbrev pub given : Option (List (List ℕ)) → State → Maybe State
+given none x = None
+given (some ws) x = Some x
+
+-- a line's answer is put into a room, or it has none; state and memory are left as its effect says
+pub record Leaves (e : Effect) (before : Room) (r : Maybe State) (run octets : List ℕ) (after : Room) : Type 0 where
+  pub state : r ≡ given e.words e.state
+  pub fills : Fills (pieces_of e.words) before after
   pub descriptions : run ≡ e.descriptions
   pub store : octets ≡ e.store
 
--- the words that an effect has
-abbrev pub words_of : Option (List (List ℕ)) → List (List ℕ)
-words_of none = []
-words_of (some ws) = ws
-
 -- the same of an effect that always has words
-pub record Answered (e : Effect) (at : ℕ) (before : List ℕ) (r : Outcome) (run octets after : List ℕ) : Type 0 where
-  pub words : Puts (words_of e.words) at before r.at after
-  pub state : r.state ≡ e.state
+pub record Answers (e : Effect) (before : Room) (x : State) (run octets : List ℕ) (after : Room) : Type 0 where
+  pub state : x ≡ e.state
+  pub fills : Fills (pieces_of e.words) before after
   pub descriptions : run ≡ e.descriptions
   pub store : octets ≡ e.store

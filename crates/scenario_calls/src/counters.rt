@@ -1,53 +1,35 @@
 // The statistics in words.
-ghost use Rattle.std.specs.Prelude.{◌+◌, ◌-◌, ◌≤◌};
-ghost use Rattle.octets.specs.Octets.{part};
-ghost use Rattle.answer.specs.Answer.{Puts, decimal};
+ghost use Rattle.answer.specs.Lent.{Fills};
 ghost use Rattle.scenario_calls.specs.Counters.{decimals, counters_words, statistics_words};
 
+use answer::Room;
 use statistics::{Counters, Statistics};
 
-// A counter.
-fn put_one(out: &mut [u8], at: usize, n: u32) -> usize
-    ensures { Puts (decimal n) at out.old result out.new }
+// Numbers in decimal one after the other.
+fn put_all(out: &mut Room, numbers: &[u32])
+    ensures { Fills (decimals numbers.now) out.old out.new }
 {
-    answer::decimal(out, at, n as u64)
-}
-
-// How often each refusal number from a first up to a last was counted.
-fn put_refused(out: &mut [u8], at: usize, refused: [u32; 40], first: usize, last: usize) -> usize
-    requires { last ≤ 39 }
-    ensures { Puts (decimals (part (last + 1 - first) first refused)) at out.old result out.new }
-{
-    let mut p = at;
-    let mut i = first;
-    while i <= last {
-        p = put_one(out, p, refused[i]);
-        i += 1;
+    for n in numbers {
+        out.decimal(u64::from(*n));
     }
-    p
 }
 
 // Received, delivered, and the refusals 2 to 8, which both families have.
-fn put_counters(out: &mut [u8], at: usize, family: &[u8], c: Counters) -> usize
-    ensures { Puts (counters_words family.now c) at out.old result out.new }
+fn put_counters(out: &mut Room, family: &[u8], c: &Counters)
+    ensures { Fills (counters_words family.now c.now) out.old out.new }
 {
-    let refused = c.refused;
-    let p = answer::word(out, at, family);
-    let p = put_one(out, p, c.received);
-    let p = put_one(out, p, c.delivered);
-    put_refused(out, p, refused, 2, 8)
+    out.word(family);
+    out.decimal(u64::from(c.received));
+    out.decimal(u64::from(c.delivered));
+    put_all(out, &c.refused[2..9]);
 }
 
 // `pd` and its counters, then `md` and its.
-pub fn put_statistics(out: &mut [u8], at: usize, s: Statistics) -> usize
-    ensures { Puts (statistics_words s) at out.old result out.new }
+pub fn put_statistics(out: &mut Room, s: &Statistics)
+    ensures { Fills (statistics_words s.now) out.old out.new }
 {
-    let pd = s.pd;
-    let md = s.md;
-    let of_pd = pd.refused;
-    let of_md = md.refused;
-    let p = put_counters(out, at, b"pd", pd);
-    let p = put_refused(out, p, of_pd, 9, 9);
-    let p = put_counters(out, p, b"md", md);
-    put_refused(out, p, of_md, 17, 20)
+    put_counters(out, b"pd", &s.pd);
+    put_all(out, &s.pd.refused[9..10]);
+    put_counters(out, b"md", &s.md);
+    put_all(out, &s.md.refused[17..21]);
 }

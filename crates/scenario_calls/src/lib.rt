@@ -1,14 +1,15 @@
-// The calls by their verbs, and what each leaves to the next.
+// The calls by their verbs, and what each leaves to the next. Each fills the room with its answer; nothing where the line is none of its own.
 #![tactic(auto)]
 
 mod counters;
 
-ghost use Rattle.std.specs.Prelude.{◌≡◌, List, ℕ, ◌<◌, ◌≤◌, length};
-ghost use Rattle.scenario_calls.specs.Calls.{at_start, local_effect, stats_effect, publication_effect, data_effect, process_effect, message_effect, plain_effect, described_effect, call_effect, effect_of, Leaves, Answered};
+ghost use Rattle.std.specs.Prelude.{◌≡◌, List, ℕ};
+ghost use Rattle.scenario_calls.specs.Calls.{at_start, local_effect, stats_effect, wire_effect, publication_effect, data_effect, process_effect, message_effect, plain_effect, described_effect, call_effect, effect_of, Leaves, Answers};
 
-use scenario_pd_look::Slots;
+use answer::Room;
+use lent::Slots;
+use publication::Publication;
 use scenario_wire::publications;
-use scenario_wire::publications::Held;
 use statistics::Statistics;
 use topography::TopoCounts;
 
@@ -17,41 +18,33 @@ use topography::TopoCounts;
 #[derive(Clone, Copy)]
 pub struct State {
     pub local: TopoCounts,
-    pub held: Held,
+    pub held: Option<Publication>,
     pub numbers: usize,
     pub slots: Slots,
     pub tables: [u8; 1280],
     pub statistics: Statistics,
 }
 
-// The state after a call, and the place behind its answer; 0 where the line is bad.
-#[derive(Clone, Copy)]
-pub struct Outcome {
-    pub state: State,
-    pub at: usize,
-}
-
 // Before the first call: counters 0 and 0, no publication, an empty description run, nothing subscribed, nothing counted.
 pub fn start() -> State
     ensures { result ≡ at_start }
 {
-    let counts = TopoCounts {
-        etb_topo_cnt: 0,
-        op_trn_topo_cnt: 0,
-    };
     State {
-        local: counts,
-        held: Held::Nothing,
+        local: TopoCounts {
+            etb_topo_cnt: 0,
+            op_trn_topo_cnt: 0,
+        },
+        held: None,
         numbers: 0,
         slots: scenario_pd::start(),
-        tables: [0u8; 1280],
-        statistics: statistics::none(),
+        tables: [0; 1280],
+        statistics: Statistics::none(),
     }
 }
 
 // `local ETB OPTRN`
-fn local(state: State, s: &[u8], out: &mut [u8], at: usize) -> Outcome
-    ensures { (run octets : List ℕ) → Leaves (local_effect state run octets s.now) at out.old result run octets out.new }
+fn local(state: State, s: &[u8], out: &mut Room) -> Option<State>
+    ensures { (run octets : List ℕ) → Leaves (local_effect state run octets s.now) out.old result run octets out.new }
 {
     let etb = line::number(s, line::behind(5), 8);
     let op_trn = line::number(s, etb, 8);
@@ -60,147 +53,109 @@ fn local(state: State, s: &[u8], out: &mut [u8], at: usize) -> Outcome
             etb_topo_cnt: line::word(etb),
             op_trn_topo_cnt: line::word(op_trn),
         };
-        let mut after = state;
-        after.local = counts;
-        return Outcome {
-            state: after,
-            at: answer::word(out, at, b"ok"),
-        };
+        out.word(b"ok");
+        return Some(State {
+            local: counts,
+            ..state
+        });
     }
-    Outcome {
-        state: state,
-        at: 0,
-    }
+    None
 }
 
 // `stats`
-fn stats(state: State, s: &[u8], out: &mut [u8], at: usize) -> Outcome
-    ensures { (run octets : List ℕ) → Leaves (stats_effect state run octets s.now) at out.old result run octets out.new }
+fn stats(state: State, s: &[u8], out: &mut Room) -> Option<State>
+    ensures { (run octets : List ℕ) → Leaves (stats_effect state run octets s.now) out.old result run octets out.new }
 {
     if line::is_end(s, line::behind(5)) {
-        let counted = state.statistics;
-        return Outcome {
-            state: state,
-            at: counters::put_statistics(out, at, counted),
-        };
+        counters::put_statistics(out, &state.statistics);
+        return Some(state);
     }
-    Outcome {
-        state: state,
-        at: 0,
-    }
+    None
 }
 
 // A call over the publication.
-fn publication(state: State, s: &[u8], out: &mut [u8], at: usize) -> Outcome
-    ensures { (run octets : List ℕ) → Leaves (publication_effect state run octets s.now) at out.old result run octets out.new }
+fn publication(state: State, s: &[u8], out: &mut Room) -> Option<State>
+    ensures { (run octets : List ℕ) → Leaves (publication_effect state run octets s.now) out.old result run octets out.new }
 {
-    let before = state.held;
-    let o = publications::answer(before, s, out, at);
-    let local = state.local;
-    let held = o.held;
-    let slots = state.slots;
-    let tables = state.tables;
-    let counted = state.statistics;
-    Outcome {
-        state: State {
-            local: local,
-            held: held,
-            numbers: state.numbers,
-            slots: slots,
-            tables: tables,
-            statistics: counted,
-        },
-        at: o.at,
-    }
+    let mut held = state.held;
+    publications::answer(&mut held, s, out)?;
+    Some(State { held, ..state })
 }
 
 // A call over the description run.
-fn data(state: State, descriptions: &mut [u32], s: &[u8], out: &mut [u8], at: usize) -> Outcome
-    ensures { (octets : List ℕ) → Leaves (data_effect state descriptions.old octets s.now) at out.old result descriptions.new octets out.new }
+fn data(state: State, descriptions: &mut [u32], s: &[u8], out: &mut Room) -> Option<State>
+    ensures { (octets : List ℕ) → Leaves (data_effect state descriptions.old octets s.now) out.old result
+        descriptions.new octets out.new }
 {
-    let o = scenario_data::answer(state.numbers, descriptions, s, out, at);
-    let mut after = state;
-    after.numbers = o.numbers;
-    Outcome {
-        state: after,
-        at: o.at,
-    }
+    let mut numbers = state.numbers;
+    scenario_data::answer(&mut numbers, descriptions, s, out)?;
+    Some(State { numbers, ..state })
 }
 
 // A call over subscriptions.
-fn process_data(state: State, store: &mut [u8], s: &[u8], out: &mut [u8], at: usize) -> Outcome
-    ensures { (run : List ℕ) → Leaves (process_effect state run store.old s.now) at out.old result run store.new out.new }
+fn process_data(state: State, store: &mut [u8], s: &[u8], out: &mut Room) -> Option<State>
+    ensures { (run : List ℕ) → Leaves (process_effect state run store.old s.now) out.old result run store.new out.new }
 {
-    let before = state.slots;
-    let local = state.local;
-    let counted = state.statistics;
-    let o = scenario_pd::answer(before, counted, local, store, s, out, at);
-    let slots = o.slots;
-    let statistics = o.statistics;
-    let mut after = state;
-    after.slots = slots;
-    after.statistics = statistics;
-    Outcome {
-        state: after,
-        at: o.at,
-    }
+    let mut slots = state.slots;
+    let mut statistics = state.statistics;
+    scenario_pd::answer(&mut slots, &mut statistics, state.local, store, s, out)?;
+    Some(State {
+        slots,
+        statistics,
+        ..state
+    })
 }
 
 // A call over listeners and sessions.
-fn message_data(state: State, s: &[u8], out: &mut [u8], at: usize) -> Outcome
-    ensures { (run octets : List ℕ) → Leaves (message_effect state run octets s.now) at out.old result run octets out.new }
+fn message_data(state: State, s: &[u8], out: &mut Room) -> Option<State>
+    ensures { (run octets : List ℕ) → Leaves (message_effect state run octets s.now) out.old result run octets out.new }
 {
     let mut tables = state.tables;
-    let local = state.local;
-    let counted = state.statistics;
-    let o = scenario_md::answer(&mut tables, counted, local, s, out, at);
-    let statistics = o.statistics;
-    let mut after = state;
-    after.tables = tables;
-    after.statistics = statistics;
-    Outcome {
-        state: after,
-        at: o.at,
-    }
+    let mut statistics = state.statistics;
+    scenario_md::answer(&mut tables, &mut statistics, state.local, s, out)?;
+    Some(State {
+        tables,
+        statistics,
+        ..state
+    })
+}
+
+// A call over no table.
+fn wire(state: State, s: &[u8], out: &mut Room) -> Option<State>
+    ensures { (run octets : List ℕ) → Leaves (wire_effect state run octets s.now) out.old result run octets out.new }
+{
+    scenario_wire::answer(s, out)?;
+    Some(state)
 }
 
 // A call that knows no lent memory answered.
-fn plain(state: State, s: &[u8], out: &mut [u8], at: usize) -> Outcome
-    requires at_nonzero { 0 < at }
-    requires at_in_bounds { at ≤ length out.old }
-    ensures { (run octets : List ℕ) → Leaves (plain_effect state run octets s.now) at out.old result run octets out.new }
+fn plain(state: State, s: &[u8], out: &mut Room) -> Option<State>
+    ensures { (run octets : List ℕ) → Leaves (plain_effect state run octets s.now) out.old result run octets out.new }
 {
     if line::is_verb(s, b"local") {
-        return local(state, s, out, at);
+        return local(state, s, out);
     }
     if line::is_verb(s, b"stats") {
-        return stats(state, s, out, at);
+        return stats(state, s, out);
     }
-    let p = scenario_wire::answer(s, out, at);
-    if p != 0 {
-        return Outcome {
-            state: state,
-            at: p,
-        };
+    if let Some(after) = wire(state, s, out) {
+        return Some(after);
     }
-    let o = message_data(state, s, out, at);
-    if o.at != 0 {
-        return o;
+    if let Some(after) = message_data(state, s, out) {
+        return Some(after);
     }
-    publication(state, s, out, at)
+    publication(state, s, out)
 }
 
 // A call over the description run answered, or one that knows no lent memory.
-fn described(state: State, descriptions: &mut [u32], s: &[u8], out: &mut [u8], at: usize) -> Outcome
-    requires at_nonzero { 0 < at }
-    requires at_in_bounds { at ≤ length out.old }
-    ensures { (octets : List ℕ) → Leaves (described_effect state descriptions.old octets s.now) at out.old result descriptions.new octets out.new }
+fn described(state: State, descriptions: &mut [u32], s: &[u8], out: &mut Room) -> Option<State>
+    ensures { (octets : List ℕ) → Leaves (described_effect state descriptions.old octets s.now) out.old result
+        descriptions.new octets out.new }
 {
-    let o = data(state, descriptions, s, out, at);
-    if o.at != 0 {
-        return o;
+    if let Some(after) = data(state, descriptions, s, out) {
+        return Some(after);
     }
-    plain(state, s, out, at)
+    plain(state, s, out)
 }
 
 // A call answered. A further module's verbs are tried where none before answers.
@@ -209,18 +164,14 @@ fn call(
     descriptions: &mut [u32],
     store: &mut [u8],
     s: &[u8],
-    out: &mut [u8],
-    at: usize,
-) -> Outcome
-    requires at_nonzero { 0 < at }
-    requires at_in_bounds { at ≤ length out.old }
-    ensures { Leaves (call_effect state descriptions.old store.old s.now) at out.old result descriptions.new store.new out.new }
+    out: &mut Room,
+) -> Option<State>
+    ensures { Leaves (call_effect state descriptions.old store.old s.now) out.old result descriptions.new store.new out.new }
 {
-    let o = process_data(state, store, s, out, at);
-    if o.at != 0 {
-        return o;
+    if let Some(after) = process_data(state, store, s, out) {
+        return Some(after);
     }
-    described(state, descriptions, s, out, at)
+    described(state, descriptions, s, out)
 }
 
 // A line that no call answers is bad, and changes nothing.
@@ -229,19 +180,13 @@ pub fn answer(
     descriptions: &mut [u32],
     store: &mut [u8],
     s: &[u8],
-    out: &mut [u8],
-    at: usize,
-) -> Outcome
-    requires at_nonzero { 0 < at }
-    requires at_in_bounds { at ≤ length out.old }
-    ensures { Answered (effect_of state descriptions.old store.old s.now) at out.old result descriptions.new store.new out.new }
+    out: &mut Room,
+) -> State
+    ensures { Answers (effect_of state descriptions.old store.old s.now) out.old result descriptions.new store.new out.new }
 {
-    let o = call(state, descriptions, store, s, out, at);
-    if o.at != 0 {
-        return o;
+    if let Some(after) = call(state, descriptions, store, s, out) {
+        return after;
     }
-    Outcome {
-        state: state,
-        at: answer::word(out, at, b"bad line"),
-    }
+    out.word(b"bad line");
+    state
 }

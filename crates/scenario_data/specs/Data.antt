@@ -1,15 +1,16 @@
 -- The calls over a description run: what a line says, the words of its answer, and the run after it.
-use Rattle.std.specs.Prelude.{ℕ, zero, suc, ◌/◌, ◌%◌, ◌≡◌, List, [], ◌∷◌, Bool, cond, ◌&&◌, eqb, leb, length, take, drop}
+use Rattle.std.specs.Prelude.{ℕ, zero, suc, ◌/◌, ◌%◌, ◌≡◌, List, [], ◌∷◌, Bool, cond, ◌&&◌, eqb, leb, length, take, drop, Result, Ok, Err, Option as Maybe}
 use Rattle.std.proofs.Math.Option.{Option, none, some}
 use Rattle.octets.specs.Octets.{big, put}
 use Rattle.dataset.specs.declared.Form.{Form}
 use Rattle.dataset.specs.declared.Form.TheVariants.{Wire, Host}
-use Rattle.dataset.specs.declared.Converted.{Converted}
-use Rattle.dataset.specs.declared.Converted.TheVariants as converted
+use Rattle.refusal.specs.declared.Refusal.{Refusal}
+use Rattle.refusal.specs.Refusal as refusal
 use Rattle.dataset.specs.Walk.{whole_of, refusal_of, done_of}
 use Rattle.line.specs.Line.{read_to, verb_is, with_number, with_octets, eight, four, target_of, target_words}
-use Rattle.answer.specs.Answer.{ascii, word, refused, Answers}
-use Rattle.scenario_data.specs.declared.Outcome.{Outcome}
+use Rattle.answer.specs.Answer.{ascii, word, refused}
+use Rattle.answer.specs.declared.Room.{Room}
+use Rattle.answer.specs.Said.{Answered}
 
 -- the words of an answer, how many numbers the run has from then on, and the memory lent for it
 pub record Said : Type 0 where
@@ -41,15 +42,11 @@ or_none (some x) = x
 unfoldable pub types_said : List ℕ → List ℕ → Option Said
 types_said run s = or_none (with_octets s (read_to 0 5) (run_said run))
 
--- a conversion's answer beside its target: a word, LENGTH and the whole TARGET; or the refusal
-abbrev pub converted_words : List ℕ → Converted → List ℕ → List (List ℕ)
-converted_words done (converted.Octets n) target = target_words done n target
-converted_words done (converted.Refused r) target = refused r
-
--- the same of n octets that no check refuses (0); or of the first check that does
-abbrev pub done_words : List ℕ → ℕ → ℕ → List ℕ → List (List ℕ)
-done_words done zero n target = target_words done n target
-done_words done (suc r) n target = refused (suc r)
+-- a conversion's answer beside its target, where no check refuses: a word, LENGTH and the whole TARGET; or the first
+-- check's refusal
+abbrev pub done_words : {V : Type 0} → List ℕ → Result V Refusal → ℕ → List ℕ → List (List ℕ)
+done_words done (Ok v) n target = target_words done n target
+done_words done (Err r) n target = refused (refusal.number r)
 
 -- data of a form, the dataset of an id, converted to the other form at the front of a target
 unfoldable pub convert_words : Form → List ℕ → List ℕ → ℕ → List ℕ → List ℕ → List (List ℕ)
@@ -91,7 +88,9 @@ run_after run none = run
 run_after run (some x) = x.run
 
 -- what a line's call answers, and what it leaves of the run, the memory lent for it, and the room
-pub record Describes (said : Option Said) (numbers : ℕ) (run : List ℕ) (at : ℕ) (before : List ℕ) (o : Outcome) (memory out : List ℕ) : Type 0 where
-  pub words : Answers (words_of said) at before o.at out
-  pub counted : o.numbers ≡ numbers_after numbers said
+pub record Describes
+    (said : Option Said) (numbers : ℕ) (run : List ℕ) (before : Room) (r : Maybe (Unit {0})) (left : ℕ) (memory : List ℕ)
+    (out : Room) : Type 0 where
+  pub words : Answered (words_of said) before r out
+  pub counted : left ≡ numbers_after numbers said
   pub lent : memory ≡ run_after run said

@@ -1,14 +1,14 @@
 -- What a line's answer is, and the octets of listeners and sessions and the statistics after it: those of the rules; as they were where it asks nothing.
-use Rattle.std.specs.Prelude.{ℕ, ◌≡◌, List, get_or}
+use Rattle.std.specs.Prelude.{ℕ, ◌≡◌, List, get_or, Option as Given}
 use Rattle.std.proofs.Math.Option.{Option, none, some}
-use Rattle.answer.specs.Answer.{Answers}
+use Rattle.answer.specs.declared.Room.{Room}
+use Rattle.answer.specs.Said.{Answered}
 use Rattle.statistics.specs.declared.Statistics.{Statistics}
 use Rattle.session.specs.Session.{free_session}
 use Rattle.session_table.specs.Table.{Tables, Call, listen, unlisten, calling, telegram, reply, confirm, time_check, Answer, step}
 use Rattle.messages.specs.History.{statistics_after}
 use Rattle.packed.specs.Packed.{tables_of}
 use Rattle.packed_slots.specs.Calls.{octets_after}
-use Rattle.scenario_md.specs.declared.Outcome.{Outcome}
 use Rattle.scenario_md_words.specs.Words.{answer_words, heard_words, slot_words}
 use Rattle.scenario_md.specs.Lines.{Asked, calls, looks}
 
@@ -43,16 +43,17 @@ statistics_of none t s = s
 statistics_of (some (calls c)) t s = statistics_after c (step c t).answer s
 statistics_of (some (looks k)) t s = s
 
--- a user's line, its answer put at a place of a room; it counts nothing
-pub record Serves (q : Option Asked) (octets : List ℕ) (at : ℕ) (before : List ℕ) (place : ℕ) (octets' after : List ℕ) : Type 0 where
-  pub words : Answers (words_of q (tables_of octets)) at before place after
+-- a user's line, its answer put into a room; it counts nothing
+pub record Serves (q : Option Asked) (octets : List ℕ) (before : Room) (r : Given (Unit {0})) (octets' : List ℕ) (after : Room) : Type 0 where
+  pub words : Answered (words_of q (tables_of octets)) before r after
   pub means : tables_of octets' ≡ tables_after q (tables_of octets)
   pub leaves : octets' ≡ octets_left q octets
   pub statistics : (n : Statistics) → n ≡ statistics_of q (tables_of octets) n
 
 -- a line
-pub record Answered (q : Option Asked) (octets : List ℕ) (s : Statistics) (at : ℕ) (before : List ℕ) (r : Outcome) (octets' after : List ℕ) : Type 0 where
-  pub words : Answers (words_of q (tables_of octets)) at before r.at after
+pub record Answers (q : Option Asked) (octets : List ℕ) (s : Statistics) (before : Room) (r : Given (Unit {0}))
+    (octets' : List ℕ) (s' : Statistics) (after : Room) : Type 0 where
+  pub words : Answered (words_of q (tables_of octets)) before r after
   pub means : tables_of octets' ≡ tables_after q (tables_of octets)
   pub leaves : octets' ≡ octets_left q octets
-  pub statistics : r.statistics ≡ statistics_of q (tables_of octets) s
+  pub statistics : s' ≡ statistics_of q (tables_of octets) s

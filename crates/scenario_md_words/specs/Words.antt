@@ -1,7 +1,9 @@
 -- What the calls over listeners and sessions answer, in words.
-use Rattle.std.specs.Prelude.{ℕ, cond, List, [], ◌∷◌, ◌++◌, ltb, ℤ}
+use Rattle.std.specs.Prelude.{ℕ, cond, List, [], ◌∷◌, ◌++◌, ltb, ℤ, Ok, Err, Result}
 use Rattle.octets.specs.Octets.{unsigned}
-use Rattle.refusal.specs.Refusal.{no_slot}
+use Rattle.refusal.specs.Refusal.{number as number_of}
+use Rattle.refusal.specs.declared.Refusal.{Refusal}
+use Rattle.refusal.specs.declared.Refusal.TheVariants as refusals
 use Rattle.timing.specs.declared.Timing.{Timing}
 use Rattle.answer.specs.Answer.{ascii, spaced, word, word_of, decimal, number, octets, signed, refused}
 use Rattle.session.specs.declared.Session.{Session}
@@ -9,6 +11,16 @@ use Rattle.session.specs.declared.SessionState.{SessionState}
 use Rattle.session.specs.declared.SessionState.TheVariants.{Free, WaitingForReply, OwingConfirm, WithUser, WaitingForConfirm}
 use Rattle.session_table.specs.Table as table
 use Rattle.session_table.specs.Table.{Answer, listening, freed, opened, notified, requested, taken, replied, confirmed, codes}
+
+-- a slot granted, behind its word; or the refusal's number
+abbrev pub granted_words : List ℕ → Result ℕ Refusal → List (List ℕ)
+granted_words w (Ok k) = word_of w k
+granted_words w (Err r) = refused (number_of r)
+
+-- what was done, in a word; or the refusal's number
+abbrev pub done_words : List ℕ → Result (Unit {0}) Refusal → List (List ℕ)
+done_words w (Ok u) = spaced w
+done_words w (Err r) = refused (number_of r)
 
 -- signed numbers one after the other
 abbrev pub all_signed : List ℤ → List (List ℕ)
@@ -26,7 +38,7 @@ answer_words (taken status k) = word "taken" ++ number 8 (unsigned status) ++ de
 answer_words replied = word "replied"
 answer_words confirmed = word "confirmed"
 answer_words (codes cs) = word "codes" ++ all_signed cs
-answer_words (table.refused r status) = refused r
+answer_words (table.refused r status) = refused (number_of r)
 
 -- the status of a refused telegram
 abbrev pub status_words : Answer → List (List ℕ)
@@ -59,4 +71,4 @@ record_words id (WaitingForConfirm t) = used_words id (ascii "confirm") t
 
 -- the record of a session slot below 16; else 10
 abbrev pub slot_words : ℕ → Session → List (List ℕ)
-slot_words k x = cond (ltb k 16) (record_words x.id x.state) (refused no_slot)
+slot_words k x = cond (ltb k 16) (record_words x.id x.state) (refused (number_of refusals.NoSlot))

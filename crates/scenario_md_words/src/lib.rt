@@ -1,119 +1,124 @@
 // What the calls over listeners and sessions answer, in words.
 #![tactic(auto)]
 
-ghost use Rattle.answer.specs.Answer.{Puts};
-ghost use Rattle.session_table.specs.Calls.{meaning};
-ghost use Rattle.session_table.specs.Table.{requested, taken, codes as codes_told};
-ghost use Rattle.scenario_md_words.specs.Words.{answer_words, status_words, heard_words, used_words, record_words, slot_words};
+ghost use Rattle.answer.specs.Lent.{Fills};
+ghost use Rattle.session_table.specs.Calls.{heard};
+ghost use Rattle.answer.specs.Answer.{number};
+ghost use Rattle.octets.specs.Octets.{unsigned};
+ghost use Rattle.session_table.specs.Table.{requested, taken, refused, codes as codes_told};
+ghost use Rattle.scenario_md_words.specs.Words.{granted_words, done_words, answer_words, heard_words, used_words, record_words, slot_words};
 
+use answer::Room;
+use refusal::Refusal;
 use session::{Session, SessionState};
-use session_table::Answer;
+use session_table::{Arrived, MdRefusal};
 use timing::Timing;
 
-// A request: the listener and the session's slot.
-fn put_opened(out: &mut [u8], at: usize, l: usize, k: usize) -> usize
-    ensures { Puts (answer_words (requested l k)) at out.old result out.new }
+// A slot granted, behind its word; or the refusal's number.
+pub fn put_granted(out: &mut Room, word: &[u8], granted: Result<usize, Refusal>)
+    ensures { Fills (granted_words word.now granted) out.old out.new }
 {
-    let p = answer::word_of(out, at, b"opened", l);
-    answer::decimal(out, p, k as u64)
+    match granted {
+        Ok(k) => out.word_of(word, k),
+        Err(r) => out.refused(r.into()),
+    }
+}
+
+// What was done, in a word; or the refusal's number.
+pub fn put_done(out: &mut Room, word: &[u8], done: Result<(), Refusal>)
+    ensures { Fills (done_words word.now done) out.old out.new }
+{
+    match done {
+        Ok(()) => out.word(word),
+        Err(r) => out.refused(r.into()),
+    }
+}
+
+// A request: the listener and the session's slot.
+fn put_requested(out: &mut Room, listener: usize, session: usize)
+    ensures { Fills (answer_words (requested listener session)) out.old out.new }
+{
+    out.word_of(b"opened", listener);
+    out.decimal(session as u64);
+}
+
+// replyStatus or the status for the Me to be sent, as its 32 bits.
+fn put_status(out: &mut Room, status: i32)
+    ensures { Fills (number 8 (unsigned status)) out.old out.new }
+{
+    out.number(octets::to_unsigned(status));
 }
 
 // A telegram of a session: replyStatus, and its slot.
-fn put_taken(out: &mut [u8], at: usize, status: i32, k: usize) -> usize
-    ensures { Puts (answer_words (taken status k)) at out.old result out.new }
+fn put_taken(out: &mut Room, status: i32, session: usize)
+    ensures { Fills (answer_words (taken status session)) out.old out.new }
 {
-    let p = answer::word(out, at, b"taken");
-    let p = answer::number8(out, p, octets::to_unsigned(status));
-    answer::decimal(out, p, k as u64)
+    out.word(b"taken");
+    put_status(out, status);
+    out.decimal(session as u64);
 }
 
-// An answer; of a refusal its number.
-pub fn put_answer(out: &mut [u8], at: usize, a: Answer) -> usize
-    ensures { Puts (answer_words (meaning a)) at out.old result out.new }
+// A refused telegram: its number, and the status for the Me to be sent.
+fn put_refused(out: &mut Room, e: MdRefusal)
+    ensures { Fills (heard_words (refused e.refusal e.status)) out.old out.new }
 {
-    match a {
-        Answer::Listening(l) => answer::word_of(out, at, b"listener", l),
-        Answer::Freed => answer::word(out, at, b"freed"),
-        Answer::Opened(k) => answer::word_of(out, at, b"session", k),
-        Answer::Notified(l) => answer::word_of(out, at, b"notified", l),
-        Answer::Requested(l, k) => put_opened(out, at, l, k),
-        Answer::Taken(status, k) => put_taken(out, at, status, k),
-        Answer::Replied => answer::word(out, at, b"replied"),
-        Answer::Confirmed => answer::word(out, at, b"confirmed"),
-        Answer::Refused(r, _) => answer::refused(out, at, r),
-    }
-}
-
-// Of a refusal the status for the Me to be sent.
-fn put_status(out: &mut [u8], at: usize, a: Answer) -> usize
-    ensures { Puts (status_words (meaning a)) at out.old result out.new }
-{
-    match a {
-        Answer::Listening(_) => at,
-        Answer::Freed => at,
-        Answer::Opened(_) => at,
-        Answer::Notified(_) => at,
-        Answer::Requested(_, _) => at,
-        Answer::Taken(_, _) => at,
-        Answer::Replied => at,
-        Answer::Confirmed => at,
-        Answer::Refused(_, status) => answer::number8(out, at, octets::to_unsigned(status)),
-    }
+    out.refused(e.refusal.into());
+    put_status(out, e.status);
 }
 
 // The answer to a telegram.
-pub fn put_heard(out: &mut [u8], at: usize, a: Answer) -> usize
-    ensures { Puts (heard_words (meaning a)) at out.old result out.new }
+pub fn put_heard(out: &mut Room, r: Result<Arrived, MdRefusal>)
+    ensures { Fills (heard_words (heard r)) out.old out.new }
 {
-    let p = put_answer(out, at, a);
-    put_status(out, p, a)
+    match r {
+        Ok(Arrived::Notified { listener }) => out.word_of(b"notified", listener),
+        Ok(Arrived::Requested { listener, session }) => put_requested(out, listener, session),
+        Ok(Arrived::Taken { status, session }) => put_taken(out, status, session),
+        Err(e) => put_refused(out, e),
+    }
 }
 
 // Sixteen codes.
-pub fn put_codes(out: &mut [u8], at: usize, codes: [i32; 16]) -> usize
-    ensures { Puts (answer_words (codes_told codes)) at out.old result out.new }
+pub fn put_codes(out: &mut Room, codes: [i32; 16])
+    ensures { Fills (answer_words (codes_told codes)) out.old out.new }
 {
-    let mut p = answer::word(out, at, b"codes");
-    let mut i: usize = 0;
-    while i < 16 {
-        p = answer::signed(out, p, codes[i]);
-        i += 1;
+    out.word(b"codes");
+    for code in codes {
+        out.signed(code);
     }
-    p
 }
 
 // A session in use: its identifier, and what it waits for since when and how long.
-fn put_waiting(out: &mut [u8], at: usize, id: [u8; 16], state: &[u8], t: Timing) -> usize
-    ensures { Puts (used_words id state.now t) at out.old result out.new }
+fn put_waiting(out: &mut Room, id: &[u8; 16], state: &[u8], t: Timing)
+    ensures { Fills (used_words id.now state.now t) out.old out.new }
 {
-    let p = answer::word(out, at, b"used");
-    let p = answer::octets(out, p, &id);
-    let p = answer::word(out, p, state);
-    let p = answer::number16(out, p, t.start);
-    answer::number8(out, p, t.timeout)
+    out.word(b"used");
+    out.octets(id);
+    out.word(state);
+    out.number(t.start);
+    out.number(t.timeout);
 }
 
 // A session's record.
-fn put_session(out: &mut [u8], at: usize, x: Session) -> usize
-    ensures { Puts (record_words x.id x.state) at out.old result out.new }
+fn put_session(out: &mut Room, x: &Session)
+    ensures { Fills (record_words x.now.id x.now.state) out.old out.new }
 {
-    let id = x.id;
-    let state = x.state;
-    match state {
-        SessionState::Free => answer::word(out, at, b"free"),
-        SessionState::WaitingForReply(t) => put_waiting(out, at, id, b"reply", t),
-        SessionState::OwingConfirm(t) => put_waiting(out, at, id, b"owing", t),
-        SessionState::WithUser(t) => put_waiting(out, at, id, b"user", t),
-        SessionState::WaitingForConfirm(t) => put_waiting(out, at, id, b"confirm", t),
+    match x.state {
+        SessionState::Free => out.word(b"free"),
+        SessionState::WaitingForReply(t) => put_waiting(out, &x.id, b"reply", t),
+        SessionState::OwingConfirm(t) => put_waiting(out, &x.id, b"owing", t),
+        SessionState::WithUser(t) => put_waiting(out, &x.id, b"user", t),
+        SessionState::WaitingForConfirm(t) => put_waiting(out, &x.id, b"confirm", t),
     }
 }
 
 // The record of session slot k; 10 where there is no such slot.
-pub fn put_slot(out: &mut [u8], at: usize, k: usize, x: Session) -> usize
-    ensures { Puts (slot_words k x) at out.old result out.new }
+pub fn put_slot(out: &mut Room, k: usize, x: &Session)
+    ensures { Fills (slot_words k x.now) out.old out.new }
 {
     if k < 16 {
-        return put_session(out, at, x);
+        put_session(out, x);
+    } else {
+        out.refused(Refusal::NoSlot.into());
     }
-    answer::refused(out, at, refusal::NO_SLOT)
 }

@@ -1,17 +1,14 @@
 -- What a line over subscriptions answers, and what it leaves.
-use Rattle.std.specs.Prelude.{◌≡◌, List, ◌++◌, ℕ, drop}
+use Rattle.std.specs.Prelude.{◌≡◌, List, ◌++◌, ℕ, drop, Option as Maybe}
 use Rattle.std.proofs.Math.Option.{Option, none, some}
-use Rattle.answer.specs.Answer.{Answers}
-use Rattle.subscription.specs.declared.Subscription.{Subscription}
+use Rattle.answer.specs.declared.Room.{Room}
 use Rattle.subscription_table.specs.Table.{Call, step}
 use Rattle.statistics.specs.declared.Statistics.{Statistics}
 use Rattle.subscriptions.specs.Receive.{statistics_after}
 use Rattle.scenario_pd_words.specs.Words.{answer_words}
-use Rattle.scenario_pd_look.specs.declared.Slots.{Slots}
-use Rattle.scenario_pd_look.specs.Look.{lent_of}
-
-abbrev pub with_records : List Subscription → Slots → Slots
-with_records rs t = record { records = rs; lent = t.lent; octets = t.octets }
+use Rattle.answer.specs.Said.{Answered}
+use Rattle.lent.specs.declared.Slots.{Slots}
+use Rattle.lent.specs.Lent.{lent_of, with_records}
 
 -- the words of a line's answer, none where it is a bad line; the slots and the store after it
 pub record Effect : Type 0 where
@@ -38,8 +35,9 @@ unfoldable pub counting : Option Call → Slots → List ℕ → Statistics → 
 counting none t store statistics = statistics
 counting (some c) t store statistics = statistics_after c (step c (lent_of t store)).answer statistics
 
--- a line's answer is put at a place of a room, and slots and store are left as its effect says
-pub record Turns (e : Effect) (at : ℕ) (room : List ℕ) (slots : Slots) (store : List ℕ) (at' : ℕ) (room' : List ℕ) : Type 0 where
-  pub words : Answers e.words at room at' room'
+-- a line's answer fills a room, and slots and store are left as its effect says
+pub record Turns (e : Effect) (before : Room) (r : Maybe (Unit {0})) (slots : Slots) (store : List ℕ) (after : Room)
+    : Type 0 where
+  pub words : Answered e.words before r after
   pub slots-after : slots ≡ e.slots
   pub store-after : store ≡ e.store

@@ -1,18 +1,22 @@
 -- The lines over subscriptions, each as the call that it asks for or as what it does itself.
-use Rattle.std.specs.Prelude.{◌≡◌, cond, ◌&&◌, List, ℕ, ltb, leb, length, get_or, set}
+use Rattle.std.specs.Prelude.{◌≡◌, cond, ◌&&◌, List, ℕ, ltb, leb, length, get_or, set, Option as Maybe}
 use Rattle.std.proofs.Math.Option.{Option, none, some}
+use Rattle.refusal.specs.Refusal.{number}
+use Rattle.refusal.specs.declared.Refusal.TheVariants as refusal
 use Rattle.topography.specs.declared.TopoCounts.{TopoCounts}
 use Rattle.arrival.specs.declared.Arrival.{Arrival}
 use Rattle.statistics.specs.declared.Statistics.{Statistics}
 use Rattle.line.specs.declared.Field.{Field}
 use Rattle.line.specs.Line.{read_to, verb_is, ends, with_end, with_octets, with_number, eight}
+use Rattle.answer.specs.declared.Room.{Room}
 use Rattle.answer.specs.Answer.{ascii, word, refused}
 use Rattle.subscription.specs.declared.Subscription.{Subscription}
 use Rattle.subscription.specs.declared.Filter.{Filter}
 use Rattle.subscription.specs.Record.{in_use, free_record}
 use Rattle.subscription_table.specs.Table.{Call, subscribe, unsubscribe, telegram, time_check}
-use Rattle.scenario_pd_look.specs.declared.Slots.{Slots}
-use Rattle.scenario_pd.specs.Effect.{Effect, with_records, saying, calling, counting, Turns}
+use Rattle.lent.specs.declared.Slots.{Slots}
+use Rattle.lent.specs.Lent.{with_records}
+use Rattle.scenario_pd.specs.Effect.{Effect, saying, calling, counting, Turns}
 use Rattle.scenario_pd_look.specs.Look.{look_answer}
 
 -- behaviour 0 zero, 1 keep, 2 substitute; another digit is a bad line
@@ -90,7 +94,7 @@ abbrev pub damaged : ℕ → ℕ → Slots → List ℕ → Effect
 damaged k n t store =
     cond (ltb k 32 && in_use (get_or t.records k free_record))
     (record { words = some (word "ok"); slots = with_records (set t.records k (with_length n (get_or t.records k free_record))) t; store = store })
-    (saying (some (refused 10)) t store)
+    (saying (some (refused (number refusal.NoSlot))) t store)
 
 -- `damage K LENGTH`
 unfoldable pub damaging : List ℕ → Slots → List ℕ → Effect
@@ -120,9 +124,12 @@ effect_of counters s t store = cond (verb_is s (ascii "pd")) (calling (pd_call c
 
 -- only `pd` is counted
 abbrev pub statistics_of : TopoCounts → List ℕ → Slots → List ℕ → Statistics → Statistics
-statistics_of counters s t store statistics = cond (verb_is s (ascii "pd")) (counting (pd_call counters s) t store statistics) statistics
+statistics_of counters s t store statistics =
+    cond (verb_is s (ascii "pd")) (counting (pd_call counters s) t store statistics) statistics
 
 -- a line answered: its words, the slots, the store and the statistics after it
-pub record Answered (counters : TopoCounts) (s : List ℕ) (t : Slots) (store : List ℕ) (statistics : Statistics) (at : ℕ) (room : List ℕ) (slots : Slots) (store' : List ℕ) (statistics' : Statistics) (at' : ℕ) (room' : List ℕ) : Type 0 where
-  pub turns : Turns (effect_of counters s t store) at room slots store' at' room'
+pub record Answered (counters : TopoCounts) (s : List ℕ) (t : Slots) (store : List ℕ) (statistics : Statistics)
+    (before : Room) (r : Maybe (Unit {0})) (slots : Slots) (store' : List ℕ) (statistics' : Statistics) (after : Room)
+    : Type 0 where
+  pub turns : Turns (effect_of counters s t store) before r slots store' after
   pub statistics-after : statistics' ≡ statistics_of counters s t store statistics

@@ -1,117 +1,37 @@
-// The calls over subscriptions.
+// The calls over subscriptions. The program holds forty records and lends the first of them; the store is lent memory.
+// Each call fills the room with its answer; nothing where the line is none of its own, and then all stays as it was.
 #![tactic(auto)]
 
-ghost use Rattle.std.specs.Prelude.{◌≡◌, List, ℕ, replicate};
-ghost use Rattle.std.proofs.Math.Option.{some};
-ghost use Rattle.answer.specs.Answer.{Puts, refused};
+ghost use Rattle.std.specs.Prelude.{◌≡◌, List, ℕ, Some, replicate};
 ghost use Rattle.subscription.specs.Record.{free_record};
-ghost use Rattle.subscription_table.specs.Table as table;
-ghost use Rattle.subscription_decisions.specs.Calls.{meaning};
-ghost use Rattle.scenario_pd_words.specs.Words.{answer_words};
-ghost use Rattle.scenario_pd.specs.Effect.{with_records, calling, counting, Turns};
-ghost use Rattle.scenario_pd.specs.Lines.{filter_in, sub_call, unsub_call, check_call, pd_call, lending, allotted, damaging, damaged, own_effect, other_effect, Answered};
+ghost use Rattle.scenario_pd.specs.Effect.{calling, counting, Turns};
+ghost use Rattle.scenario_pd.specs.Lines.{sub_call, unsub_call, check_call, pd_call};
+ghost use Rattle.scenario_pd.specs.Lines.{lending, allotted, damaging, damaged};
+ghost use Rattle.scenario_pd.specs.Lines.{own_effect, other_effect, Answered};
 
 use address::SenderRange;
+use answer::Room;
 use arrival::Arrival;
-use lent::Called;
-use line::Field;
-use scenario_pd_look::Slots;
+use lent::Slots;
+use refusal::Refusal;
 use statistics::Statistics;
-use subscription::Filter;
+use subscription::{Filter, Subscription};
 use topography::TopoCounts;
-
-// The records after a call, and the place behind its answer; 0 where the line is none of these.
-#[derive(Clone, Copy)]
-pub struct Turned {
-    pub slots: Slots,
-    pub at: usize,
-}
-
-// The same with the statistics.
-#[derive(Clone, Copy)]
-pub struct Outcome {
-    pub slots: Slots,
-    pub statistics: Statistics,
-    pub at: usize,
-}
 
 // Before the first call: no subscription; 32 slots are lent, and a store of 1432 octets for each.
 pub fn start() -> Slots
     ensures { (result.records ≡ replicate 40 free_record) × (result.lent ≡ 32) × (result.octets ≡ 45824) }
 {
-    let free = subscription::free();
     Slots {
-        records: [free; 40],
+        records: [Subscription::free(); 40],
         lent: 32,
         octets: 45_824,
     }
 }
 
-// A line of another form: nothing changes.
-fn bad(t: Slots) -> Turned
-    ensures { result ≡ record { slots = t; at = 0 } }
-{
-    Turned { slots: t, at: 0 }
-}
-
-// What a call leaves and answers.
-fn turn(t: Slots, c: Called, out: &mut [u8], at: usize) -> Turned
-    ensures { (Puts (answer_words (meaning c.answer)) at out.old result.at out.new) × (result.slots ≡ with_records c.slots t) }
-{
-    let records = c.slots;
-    let a = c.answer;
-    let mut after = t;
-    after.records = records;
-    Turned {
-        slots: after,
-        at: scenario_pd_words::put_answer(out, at, a),
-    }
-}
-
-fn subscribe(
-    t: Slots,
-    f: Filter,
-    timeout: u32,
-    behaviour: u8,
-    time: u64,
-    store: &mut [u8],
-    out: &mut [u8],
-    at: usize,
-) -> Turned
-    ensures { Turns (calling (some (table.subscribe (record { filter = f; timeout = timeout; behaviour = behaviour }) time)) t store.old) at out.old result.slots store.new result.at out.new }
-{
-    let records = t.records;
-    let n = line::at_most(t.octets, store);
-    let c = lent::subscribe(
-        records,
-        t.lent,
-        &mut store[..n],
-        f,
-        timeout,
-        behaviour,
-        time,
-    );
-    turn(t, c, out, at)
-}
-
-// The filter that four fields say.
-fn filter_in(com_id: Field, start: Field, end: Field, destination: Field) -> Filter
-    ensures { result ≡ filter_in com_id start end destination }
-{
-    let senders = SenderRange {
-        start: line::word(start),
-        end: line::word(end),
-    };
-    Filter {
-        com_id: line::word(com_id),
-        senders: senders,
-        destination: line::word(destination),
-    }
-}
-
 // `sub COMID START END DEST TIMEOUT BEHAVIOUR NOW`
-fn sub(t: Slots, store: &mut [u8], s: &[u8], out: &mut [u8], at: usize) -> Turned
-    ensures { Turns (calling (sub_call s.now) t store.old) at out.old result.slots store.new result.at out.new }
+fn sub(t: &mut Slots, store: &mut [u8], s: &[u8], out: &mut Room) -> Option<()>
+    ensures { Turns (calling (sub_call s.now) t.old store.old) out.old result t.new store.new out.new }
 {
     let com_id = line::number(s, line::behind(3), 8);
     let start = line::number(s, com_id, 8);
@@ -120,172 +40,121 @@ fn sub(t: Slots, store: &mut [u8], s: &[u8], out: &mut [u8], at: usize) -> Turne
     let timeout = line::number(s, destination, 8);
     let behaviour = line::number(s, timeout, 1);
     let time = line::number(s, behaviour, 16);
-    if line::is_end(s, time) {
-        let b = behaviour.value;
-        if b <= 2 {
-            return subscribe(
-                t,
-                filter_in(com_id, start, end, destination),
-                line::word(timeout),
-                b as u8,
-                time.value,
-                store,
-                out,
-                at,
-            );
-        }
-        return bad(t);
+    if !line::is_end(s, time) || 2 < behaviour.value {
+        return None;
     }
-    bad(t)
+    let filter = Filter {
+        com_id: line::word(com_id),
+        senders: SenderRange {
+            start: line::word(start),
+            end: line::word(end),
+        },
+        destination: line::word(destination),
+    };
+    let granted = t.subscribe(
+        store,
+        filter,
+        line::word(timeout),
+        behaviour.value as u8,
+        time.value,
+    );
+    scenario_pd_words::put_done(out, b"slot", granted);
+    Some(())
 }
 
 // `unsub K`
-fn unsub(t: Slots, store: &mut [u8], s: &[u8], out: &mut [u8], at: usize) -> Turned
-    ensures { Turns (calling (unsub_call s.now) t store.old) at out.old result.slots store.new result.at out.new }
+fn unsub(t: &mut Slots, store: &mut [u8], s: &[u8], out: &mut Room) -> Option<()>
+    ensures { Turns (calling (unsub_call s.now) t.old store.old) out.old result t.new store.new out.new }
 {
     let k = line::number(s, line::behind(5), 8);
-    if line::is_end(s, k) {
-        let records = t.records;
-        let n = line::at_most(t.octets, store);
-        let c = lent::unsubscribe(records, t.lent, &mut store[..n], line::word(k) as usize);
-        return turn(t, c, out, at);
+    if !line::is_end(s, k) {
+        return None;
     }
-    bad(t)
+    let freed = t.unsubscribe(store, line::word(k) as usize);
+    scenario_pd_words::put_freed(out, freed);
+    Some(())
 }
 
 // `check NOW`
-fn check(t: Slots, store: &mut [u8], s: &[u8], out: &mut [u8], at: usize) -> Turned
-    ensures { Turns (calling (check_call s.now) t store.old) at out.old result.slots store.new result.at out.new }
+fn check(t: &mut Slots, store: &mut [u8], s: &[u8], out: &mut Room) -> Option<()>
+    ensures { Turns (calling (check_call s.now) t.old store.old) out.old result t.new store.new out.new }
 {
     let time = line::number(s, line::behind(5), 16);
-    if line::is_end(s, time) {
-        let records = t.records;
-        let n = line::at_most(t.octets, store);
-        let c = lent::time_check(records, t.lent, &mut store[..n], time.value);
-        return turn(t, c, out, at);
+    if !line::is_end(s, time) {
+        return None;
     }
-    bad(t)
+    let marked = t.time_check(store, time.value);
+    scenario_pd_words::put_done(out, b"marked", marked);
+    Some(())
 }
 
-// So many slots and octets lent from now on; a bad line where there are not so many.
-fn allot(t: Slots, n: usize, m: usize, store: &[u8], out: &mut [u8], at: usize) -> Turned
-    ensures { Turns (allotted n m t store.now) at out.old result.slots store.now result.at out.new }
+// So many slots and octets lent from now on; nothing where there are not so many.
+fn allot(t: &mut Slots, slots: usize, octets: usize, store: &[u8], out: &mut Room) -> Option<()>
+    ensures { Turns (allotted slots octets t.old store.now) out.old result t.new store.now out.new }
 {
-    if n <= 40 {
-        if m <= store.len() {
-            let mut after = t;
-            after.lent = n;
-            after.octets = m;
-            return Turned {
-                slots: after,
-                at: answer::word(out, at, b"ok"),
-            };
-        }
-        return bad(t);
+    if 40 < slots || store.len() < octets {
+        return None;
     }
-    bad(t)
+    t.lent = slots;
+    t.octets = octets;
+    out.word(b"ok");
+    Some(())
 }
 
 // `lend SLOTS COUNT`
-fn lend(t: Slots, store: &[u8], s: &[u8], out: &mut [u8], at: usize) -> Turned
-    ensures { Turns (lending s.now t store.now) at out.old result.slots store.now result.at out.new }
+fn lend(t: &mut Slots, store: &[u8], s: &[u8], out: &mut Room) -> Option<()>
+    ensures { Turns (lending s.now t.old store.now) out.old result t.new store.now out.new }
 {
     let slots = line::number(s, line::behind(4), 8);
     let count = line::number(s, slots, 8);
-    if line::is_end(s, count) {
-        return allot(
-            t,
-            line::word(slots) as usize,
-            line::word(count) as usize,
-            store,
-            out,
-            at,
-        );
+    if !line::is_end(s, count) {
+        return None;
     }
-    bad(t)
+    allot(
+        t,
+        line::word(slots) as usize,
+        line::word(count) as usize,
+        store,
+        out,
+    )
 }
 
-// No such slot.
-fn refuse(t: Slots, out: &mut [u8], at: usize) -> Turned
-    ensures { (Puts (refused 10) at out.old result.at out.new) × (result.slots ≡ t) }
+// A record that says another stored length; refusal 10 where there is no such slot.
+fn lengthen(t: &mut Slots, k: usize, n: u32, out: &mut Room)
+    ensures { (store : List ℕ) → Turns (damaged k n t.old store) out.old (Some tt) t.new store out.new }
 {
-    Turned {
-        slots: t,
-        at: answer::refused(out, at, refusal::NO_SLOT),
+    if k < 32 && t.records[k].is_used() {
+        t.records[k].length = n;
+        out.word(b"ok");
+    } else {
+        out.refused(u8::from(Refusal::NoSlot));
     }
-}
-
-// A record that says another stored length.
-fn lengthen(t: Slots, k: usize, n: u32, out: &mut [u8], at: usize) -> Turned
-    ensures { (store : List ℕ) → Turns (damaged k n t store) at out.old result.slots store result.at out.new }
-{
-    if k < 32 {
-        let mut records = t.records;
-        let mut r = records[k];
-        if r.used != 0 {
-            r.length = n;
-            records[k] = r;
-            let mut after = t;
-            after.records = records;
-            return Turned {
-                slots: after,
-                at: answer::word(out, at, b"ok"),
-            };
-        }
-        return refuse(t, out, at);
-    }
-    refuse(t, out, at)
 }
 
 // `damage K LENGTH`
-fn damage(t: Slots, s: &[u8], out: &mut [u8], at: usize) -> Turned
-    ensures { (store : List ℕ) → Turns (damaging s.now t store) at out.old result.slots store result.at out.new }
+fn damage(t: &mut Slots, s: &[u8], out: &mut Room) -> Option<()>
+    ensures { (store : List ℕ) → Turns (damaging s.now t.old store) out.old result t.new store out.new }
 {
     let k = line::number(s, line::behind(6), 8);
     let n = line::number(s, k, 8);
-    if line::is_end(s, n) {
-        return lengthen(t, line::word(k) as usize, line::word(n), out, at);
+    if !line::is_end(s, n) {
+        return None;
     }
-    bad(t)
-}
-
-fn receive(
-    t: Slots,
-    statistics: Statistics,
-    a: Arrival,
-    datagram: &[u8],
-    store: &mut [u8],
-    out: &mut [u8],
-    at: usize,
-) -> Outcome
-    ensures { (Turns (calling (some (table.telegram a datagram.now)) t store.old) at out.old result.slots store.new result.at out.new) × (result.statistics ≡ counting (some (table.telegram a datagram.now)) t store.old statistics) }
-{
-    let records = t.records;
-    let n = line::at_most(t.octets, store);
-    let d = lent::receive(records, t.lent, &mut store[..n], statistics, a, datagram);
-    let taken = d.slots;
-    let counted = d.statistics;
-    let said = d.answer;
-    let mut after = t;
-    after.records = taken;
-    Outcome {
-        slots: after,
-        statistics: counted,
-        at: scenario_pd_words::put_answer(out, at, said),
-    }
+    lengthen(t, line::word(k) as usize, line::word(n), out);
+    Some(())
 }
 
 // `pd SENDER DEST NOW OCTETS`
 fn pd(
-    t: Slots,
-    statistics: Statistics,
+    t: &mut Slots,
+    statistics: &mut Statistics,
     local: TopoCounts,
     store: &mut [u8],
     s: &[u8],
-    out: &mut [u8],
-    at: usize,
-) -> Outcome
-    ensures { (Turns (calling (pd_call local s.now) t store.old) at out.old result.slots store.new result.at out.new) × (result.statistics ≡ counting (pd_call local s.now) t store.old statistics) }
+    out: &mut Room,
+) -> Option<()>
+    ensures turns { Turns (calling (pd_call local s.now) t.old store.old) out.old result t.new store.new out.new }
+    ensures counts { statistics.new ≡ counting (pd_call local s.now) t.old store.old statistics.old }
 {
     let sender = line::number(s, line::behind(2), 8);
     let destination = line::number(s, sender, 8);
@@ -293,74 +162,62 @@ fn pd(
     let mut data = line::buffer();
     let d = line::octets(s, time, &mut data);
     if d.is_bad {
-        return Outcome {
-            slots: t,
-            statistics: statistics,
-            at: 0,
-        };
+        return None;
     }
-    let n = d.count;
     let a = Arrival {
         sender: line::word(sender),
         destination: line::word(destination),
         time: time.value,
-        local: local,
+        local,
     };
-    receive(t, statistics, a, &data[..n], store, out, at)
+    let delivered = t.receive(store, statistics, a, &data[..d.count]);
+    scenario_pd_words::put_done(out, b"delivered", delivered);
+    Some(())
 }
 
 // A line that makes no call answered.
-fn own(t: Slots, store: &[u8], s: &[u8], out: &mut [u8], at: usize) -> Turned
-    ensures { Turns (own_effect s.now t store.now) at out.old result.slots store.now result.at out.new }
+fn own(t: &mut Slots, store: &[u8], s: &[u8], out: &mut Room) -> Option<()>
+    ensures { Turns (own_effect s.now t.old store.now) out.old result t.new store.now out.new }
 {
     if line::is_verb(s, b"lend") {
-        return lend(t, store, s, out, at);
-    }
-    if line::is_verb(s, b"damage") {
-        return damage(t, s, out, at);
-    }
-    Turned {
-        slots: t,
-        at: scenario_pd_look::answer(t, store, s, out, at),
+        lend(t, store, s, out)
+    } else if line::is_verb(s, b"damage") {
+        damage(t, s, out)
+    } else {
+        scenario_pd_look::answer(t, store, s, out)
     }
 }
 
 // The same, or one whose call brings no telegram.
-fn other(t: Slots, store: &mut [u8], s: &[u8], out: &mut [u8], at: usize) -> Turned
-    ensures { Turns (other_effect s.now t store.old) at out.old result.slots store.new result.at out.new }
+fn other(t: &mut Slots, store: &mut [u8], s: &[u8], out: &mut Room) -> Option<()>
+    ensures { Turns (other_effect s.now t.old store.old) out.old result t.new store.new out.new }
 {
     if line::is_verb(s, b"sub") {
-        return sub(t, store, s, out, at);
+        sub(t, store, s, out)
+    } else if line::is_verb(s, b"unsub") {
+        unsub(t, store, s, out)
+    } else if line::is_verb(s, b"check") {
+        check(t, store, s, out)
+    } else {
+        own(t, store, s, out)
     }
-    if line::is_verb(s, b"unsub") {
-        return unsub(t, store, s, out, at);
-    }
-    if line::is_verb(s, b"check") {
-        return check(t, store, s, out, at);
-    }
-    own(t, store, s, out, at)
 }
 
 // A line of one of these verbs answered.
 pub fn answer(
-    t: Slots,
-    statistics: Statistics,
+    t: &mut Slots,
+    statistics: &mut Statistics,
     local: TopoCounts,
     store: &mut [u8],
     s: &[u8],
-    out: &mut [u8],
-    at: usize,
-) -> Outcome
-    ensures { Answered local s.now t store.old statistics at out.old result.slots store.new result.statistics result.at out.new }
+    out: &mut Room,
+) -> Option<()>
+    ensures { Answered local s.now t.old store.old statistics.old out.old
+        result t.new store.new statistics.new out.new }
 {
     if line::is_verb(s, b"pd") {
-        return pd(t, statistics, local, store, s, out, at);
-    }
-    let o = other(t, store, s, out, at);
-    let after = o.slots;
-    Outcome {
-        slots: after,
-        statistics: statistics,
-        at: o.at,
+        pd(t, statistics, local, store, s, out)
+    } else {
+        other(t, store, s, out)
     }
 }

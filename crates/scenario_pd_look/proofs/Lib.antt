@@ -1,2 +1,1 @@
-pub mod Lent
 mod Shown

@@ -1,19 +1,17 @@
 -- The lines that only look at subscriptions: `read`, `slot` and `part`.
-use Rattle.std.specs.Prelude.{cond, ◌&&◌, List, ◌++◌, ℕ, ◌+◌, ◌*◌, ltb, leb, length, get_or, take}
+use Rattle.std.specs.Prelude.{cond, ◌&&◌, List, ◌++◌, ℕ, ◌+◌, ◌*◌, ltb, leb, length, get_or}
 use Rattle.std.proofs.Math.Option.{Option, none}
+use Rattle.refusal.specs.Refusal.{number as number_of}
+use Rattle.refusal.specs.declared.Refusal.TheVariants as refusal
 use Rattle.octets.specs.Octets.{part}
 use Rattle.fcs.specs.Fcs.{crc32}
 use Rattle.line.specs.Line.{read_to, verb_is, with_end, with_octets, with_number, eight}
 use Rattle.answer.specs.Answer.{ascii, word, number, refused}
 use Rattle.subscription.specs.Record.{free_record}
-use Rattle.subscription_table.specs.Table.{Table, read, step}
+use Rattle.subscription_table.specs.Table.{read, step}
 use Rattle.scenario_pd_words.specs.Words.{answer_words, record_words}
-use Rattle.lent.specs.Lent.{lent_table}
-use Rattle.scenario_pd_look.specs.declared.Slots.{Slots}
-
--- what a call is lent: so many slots, from slot 0 on, and so many octets of the store
-abbrev pub lent_of : Slots → List ℕ → Table
-lent_of t store = lent_table t.lent t.records (take t.octets store)
+use Rattle.lent.specs.declared.Slots.{Slots}
+use Rattle.lent.specs.Lent.{lent_of}
 
 -- `read K OCTETS`: a state and octets, or `refused R`
 unfoldable pub read_answer : Slots → List ℕ → List ℕ → Option (List (List ℕ))
@@ -23,7 +21,7 @@ read_answer t store s =
 
 -- below 32 the slot's record; else `refused 10`
 abbrev pub slot_words : ℕ → Slots → List (List ℕ)
-slot_words k t = cond (ltb k 32) (record_words (get_or t.records k free_record)) (refused 10)
+slot_words k t = cond (ltb k 32) (record_words (get_or t.records k free_record)) (refused (number_of refusal.NoSlot))
 
 -- `slot K`
 unfoldable pub slot_answer : Slots → List ℕ → Option (List (List ℕ))
@@ -34,7 +32,7 @@ abbrev pub part_words : ℕ → List ℕ → List (List ℕ)
 part_words k store =
     cond (ltb k 32 && leb (k * 1432 + 1432) (length store))
     (word "part" ++ number 8 (crc32 (part 1432 (k * 1432) store)))
-    (refused 10)
+    (refused (number_of refusal.NoSlot))
 
 -- `part K`
 unfoldable pub part_answer : List ℕ → List ℕ → Option (List (List ℕ))

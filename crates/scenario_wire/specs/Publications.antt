@@ -1,48 +1,48 @@
 -- The calls over one publication: what a line says, the words of its answer, and the publication after it.
-use Rattle.std.specs.Prelude.{ℕ, ◌≡◌, List, cond, length}
+use Rattle.std.specs.Prelude.{ℕ, ◌≡◌, List, cond, length, Option as Maybe, None, Some}
 use Rattle.std.proofs.Math.Option.{Option, none, some}
 use Rattle.refusal.specs.Refusal.{first_of, after}
 use Rattle.pd.specs.Pd.{frame_of}
 use Rattle.publication.specs.declared.Publication.{Publication}
 use Rattle.publication.specs.Publication.{made_of, send_checks, sent_at}
 use Rattle.line.specs.Line.{read_to, verb_is, with_number, with_octets, with_end, eight, four, target_of}
-use Rattle.answer.specs.Answer.{ascii, word, Answers}
+use Rattle.answer.specs.Answer.{ascii, word}
+use Rattle.answer.specs.declared.Room.{Room}
+use Rattle.answer.specs.Said.{Answered}
 use Rattle.scenario_wire.specs.Wire.{pd_fields, wrote_words}
-use Rattle.scenario_wire.specs.declared.publications.Held.{Held}
-use Rattle.scenario_wire.specs.declared.publications.Held.TheVariants.{Nothing, Made}
-use Rattle.scenario_wire.specs.declared.publications.Outcome.{Outcome}
 
 -- the words of an answer, and the publication from then on
 pub record Said : Type 0 where
   pub words : List (List ℕ)
-  pub held : Held
+  pub held : Maybe Publication
 
--- `pub VERSION(4) TYPE(4) COMID(8) ETB(8) OPTRN(8) RESERVED(8) REPLYCOMID(8) REPLYIP(8) CYCLE(8)`: `ok`, and nothing sent yet
+-- `pub VERSION(4) TYPE(4) COMID(8) ETB(8) OPTRN(8) RESERVED(8) REPLYCOMID(8) REPLYIP(8) CYCLE(8)`:
+-- `ok`, and nothing sent yet
 unfoldable pub pub_said : List ℕ → Option Said
 pub_said s =
     let f = pd_fields s (read_to 0 3) in
     with_number s f.last 8
-    (λ cycle. with_end s cycle (record { words = word "ok"; held = Made (made_of f.header (eight cycle)) }))
+    (λ cycle. with_end s cycle (record { words = word "ok"; held = Some (made_of f.header (eight cycle)) }))
 
--- a publication sent at a time into a target, refusal being the first of its checks that is given, or 0
+-- a publication sent at a time into a target, refusal being the first of its checks that is given
 unfoldable pub sent_said : Publication → ℕ → List ℕ → List ℕ → Said
 sent_said p time before d =
-    let refusal = first_of (send_checks p time (length d) (length before)) in
+    let judged = first_of (send_checks p time (length d) (length before)) in
     record {
-      words = wrote_words (ascii "sent") refusal (frame_of p.header d) before;
-      held = Made (after refusal (sent_at p time) p);
+      words = wrote_words (ascii "sent") judged (frame_of p.header d) before;
+      held = Some (after judged (sent_at p time) p);
     }
 
 -- `send NOW(16) ROOM(4) OCTETS`; with no `pub` before it, a bad line
-unfoldable pub send_said : Held → List ℕ → Option Said
-send_said Nothing s = none
-send_said (Made p) s =
+unfoldable pub send_said : Maybe Publication → List ℕ → Option Said
+send_said None s = none
+send_said (Some p) s =
     with_number s (read_to 0 4) 16
     (λ time. with_number s time 4
     (λ room. with_octets s room (sent_said p time.value (target_of (four room)))))
 
 -- a line of these verbs
-unfoldable pub publication_said : Held → List ℕ → Option Said
+unfoldable pub publication_said : Maybe Publication → List ℕ → Option Said
 publication_said held s =
     cond (verb_is s (ascii "pub")) (pub_said s)
     (cond (verb_is s (ascii "send")) (send_said held s)
@@ -53,11 +53,12 @@ abbrev pub words_of : Option Said → Option (List (List ℕ))
 words_of none = none
 words_of (some x) = some x.words
 
-abbrev pub held_after : Held → Option Said → Held
+abbrev pub held_after : Maybe Publication → Option Said → Maybe Publication
 held_after held none = held
 held_after held (some x) = x.held
 
 -- what a line's call answers, and what it leaves of the publication and of the room
-pub record Publishes (said : Option Said) (held : Held) (at : ℕ) (before : List ℕ) (o : Outcome) (out : List ℕ) : Type 0 where
-  pub words : Answers (words_of said) at before o.at out
-  pub publication : o.held ≡ held_after held said
+pub record Publishes (said : Option Said) (held : Maybe Publication) (before : Room) (r : Maybe (Unit {0}))
+    (left : Maybe Publication) (out : Room) : Type 0 where
+  pub words : Answered (words_of said) before r out
+  pub publication : left ≡ held_after held said

@@ -1,19 +1,19 @@
--- The calls that know no table: the frame check, and telegrams taken apart and written. What each line says, and its answer.
-use Rattle.std.specs.Prelude.{ℕ, zero, suc, List, ◌++◌, cond, length}
+-- The calls that know no table: the frame check, and telegrams taken apart and written.
+-- What each line says, and its answer.
+use Rattle.std.specs.Prelude.{ℕ, List, ◌++◌, cond, length, Ok, Err, Result}
 use Rattle.std.proofs.Math.Option.{Option, none}
+use Rattle.refusal.specs.declared.Refusal.{Refusal}
+use Rattle.refusal.specs.Refusal as refusal
 use Rattle.refusal.specs.Refusal.{first_of}
 use Rattle.octets.specs.Octets.{put, signed}
 use Rattle.fcs.specs.Fcs.{crc32}
 use Rattle.pd.specs.declared.PdHeader.{PdHeader}
-use Rattle.pd.specs.declared.PdTaken.{PdTaken}
-use Rattle.pd.specs.declared.PdTaken.TheVariants as pd_taken
 use Rattle.pd.specs.Pd as pd
 use Rattle.md.specs.declared.MdHeader.{MdHeader}
-use Rattle.md.specs.declared.MdTaken.{MdTaken}
-use Rattle.md.specs.declared.MdTaken.TheVariants as md_taken
 use Rattle.md.specs.Md as md
 use Rattle.line.specs.declared.Field.{Field}
-use Rattle.line.specs.Line.{read_to, verb_is, with_number, with_field, with_octets, eight, four, target_of, target_words}
+use Rattle.line.specs.Line.{read_to, verb_is, with_number, with_field, with_octets, eight}
+use Rattle.line.specs.Line.{four, target_of, target_words}
 use Rattle.answer.specs.Answer.{ascii, word, number, refused}
 use Rattle.scenario_wire_words.specs.Words.{pd_words, md_words}
 use Rattle.scenario_wire.specs.declared.CommonFields.{CommonFields}
@@ -59,26 +59,16 @@ pd_fields s counter =
       last = reply_ip;
     })))
 
--- a PD datagram taken apart, in words
-abbrev pub pd_taken_words : PdTaken → List (List ℕ)
-pd_taken_words (pd_taken.Header h) = pd_words h
-pd_taken_words (pd_taken.Refused r) = refused r
+-- a datagram taken apart, in words: its header, or the refusal
+abbrev pub taken_words : {H : Type 0} → (H → List ℕ → List (List ℕ)) → Result H Refusal → List ℕ → List (List ℕ)
+taken_words words (Ok h) d = words h d
+taken_words words (Err r) d = refused (refusal.number r)
 
-unfoldable pub pdtake_words : List ℕ → List (List ℕ)
-pdtake_words d = pd_taken_words (pd.take_pd d)
-
--- an MD datagram
-abbrev pub md_taken_words : MdTaken → List ℕ → List (List ℕ)
-md_taken_words (md_taken.Header h) d = md_words h d
-md_taken_words (md_taken.Refused r) d = refused r
-
-unfoldable pub mdtake_words : List ℕ → List (List ℕ)
-mdtake_words d = md_taken_words (md.take_md d) d
-
--- a writer's answer of a telegram that no check refuses (0), written at the front of a target; or of the first check that does
-abbrev pub wrote_words : List ℕ → ℕ → List ℕ → List ℕ → List (List ℕ)
-wrote_words done zero telegram before = target_words done (length telegram) (put 0 telegram before)
-wrote_words done (suc r) telegram before = refused (suc r)
+-- a writer's answer of a telegram that no check refuses,
+-- written at the front of a target; or of the first check that does
+abbrev pub wrote_words : {V : Type 0} → List ℕ → Result V Refusal → List ℕ → List ℕ → List (List ℕ)
+wrote_words done (Ok v) telegram before = target_words done (length telegram) (put 0 telegram before)
+wrote_words done (Err r) telegram before = refused (refusal.number r)
 
 -- a dataset written into a target as a PD telegram
 unfoldable pub pd_wrote_words : PdHeader → List ℕ → List ℕ → List (List ℕ)
@@ -102,13 +92,18 @@ crc_words d = word "crc" ++ number 8 (crc32 d)
 unfoldable pub crc_answer : List ℕ → Option (List (List ℕ))
 crc_answer s = with_octets s (read_to 0 3) crc_words
 
+-- the octets of a line taken apart, in words
+unfoldable pub take_answer : {H : Type 0} → (H → List ℕ → List (List ℕ)) → (List ℕ → Result H Refusal) → List ℕ →
+    Option (List (List ℕ))
+take_answer words taken s = with_octets s (read_to 0 6) (λ d. taken_words words (taken d) d)
+
 -- `pdtake OCTETS`
 unfoldable pub pdtake_answer : List ℕ → Option (List (List ℕ))
-pdtake_answer s = with_octets s (read_to 0 6) pdtake_words
+pdtake_answer s = take_answer (λ h d. pd_words h) pd.take_pd s
 
 -- `mdtake OCTETS`
 unfoldable pub mdtake_answer : List ℕ → Option (List (List ℕ))
-mdtake_answer s = with_octets s (read_to 0 6) mdtake_words
+mdtake_answer s = take_answer md_words md.take_md s
 
 -- `pdwrite SEQ(8) VERSION(4) TYPE(4) COMID(8) ETB(8) OPTRN(8) RESERVED(8) REPLYCOMID(8) REPLYIP(8) ROOM(4) OCTETS`
 unfoldable pub pdwrite_answer : List ℕ → Option (List (List ℕ))
@@ -118,7 +113,8 @@ pdwrite_answer s =
     with_number s f.last 4
     (λ room. with_octets s room (pd_wrote_words f.header (target_of (four room)))))
 
--- `mdwrite SEQ(8) VERSION(4) TYPE(4) COMID(8) ETB(8) OPTRN(8) STATUS(8) ID(32) TIMEOUT(8) SRCURI(64) DSTURI(64) ROOM(4) OCTETS`
+-- `mdwrite SEQ(8) VERSION(4) TYPE(4) COMID(8) ETB(8) OPTRN(8)
+-- STATUS(8) ID(32) TIMEOUT(8) SRCURI(64) DSTURI(64) ROOM(4) OCTETS`
 unfoldable pub mdwrite_answer : List ℕ → Option (List (List ℕ))
 mdwrite_answer s =
     with_number s (read_to 0 7) 8
@@ -129,18 +125,19 @@ mdwrite_answer s =
     (λ timeout. with_field s timeout 32
     (λ behind_source source. with_field s behind_source 32
     (λ behind_destination destination. with_number s behind_destination 4
-    (λ room. let h : MdHeader = record { common = f.common; reply_status = signed (eight status); reply_timeout = eight timeout } in
+    (λ room. let h : MdHeader = record {
+      common = f.common;
+      reply_status = signed (eight status);
+      reply_timeout = eight timeout;
+    } in
     with_octets s room (md_wrote_words h id source destination (target_of (four room))))))))))
-
--- a line that writes a telegram
-unfoldable pub write_answer : List ℕ → Option (List (List ℕ))
-write_answer s =
-    cond (verb_is s (ascii "pdwrite")) (pdwrite_answer s)
-    (cond (verb_is s (ascii "mdwrite")) (mdwrite_answer s) none)
 
 -- a line of these verbs
 unfoldable pub wire_answer : List ℕ → Option (List (List ℕ))
 wire_answer s =
     cond (verb_is s (ascii "crc")) (crc_answer s)
     (cond (verb_is s (ascii "pdtake")) (pdtake_answer s)
-    (cond (verb_is s (ascii "mdtake")) (mdtake_answer s) (write_answer s)))
+    (cond (verb_is s (ascii "mdtake")) (mdtake_answer s)
+    (cond (verb_is s (ascii "pdwrite")) (pdwrite_answer s)
+    (cond (verb_is s (ascii "mdwrite")) (mdwrite_answer s)
+    none))))

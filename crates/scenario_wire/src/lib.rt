@@ -1,17 +1,21 @@
 // The calls that know no table: the frame check, and telegrams taken apart and written.
-// Each answers the place behind its answer; 0 where the line is none of its own.
+// Each fills the room with its answer; nothing where the line is none of its own.
 #![tactic(auto)]
 
 pub mod publications;
 
 ghost use Rattle.std.specs.Prelude.{◌≡◌};
-ghost use Rattle.answer.specs.Answer.{Puts, Answers};
-ghost use Rattle.scenario_wire.specs.Wire.{common_fields, pd_fields, pdtake_words, mdtake_words, pd_wrote_words, md_wrote_words, crc_words};
-ghost use Rattle.scenario_wire.specs.Wire.{crc_answer, pdtake_answer, mdtake_answer, pdwrite_answer, mdwrite_answer, write_answer, wire_answer};
+ghost use Rattle.refusal.specs.Refusal.{first_of, answer as answered};
+ghost use Rattle.telegram.specs.Telegram.{checks};
+ghost use Rattle.answer.specs.Said.{Answered};
+ghost use Rattle.scenario_wire.specs.Wire.{common_fields, pd_fields, take_answer};
+ghost use Rattle.scenario_wire.specs.Wire.{crc_answer, pdwrite_answer, mdwrite_answer, wire_answer};
 
+use answer::Room;
 use line::Field;
-use md::{MdHeader, MdTaken};
-use pd::{PdHeader, PdTaken};
+use md::{MdFields, MdHeader};
+use pd::PdHeader;
+use scenario_wire_words::Shown;
 use telegram::Common;
 
 // Header fields that were read, and the last of them.
@@ -51,17 +55,16 @@ fn common_fields(s: &[u8], counter: Field) -> CommonFields
 }
 
 // The same and RESERVED REPLYCOMID REPLYIP.
-pub fn pd_fields(s: &[u8], counter: Field) -> PdFields
+fn pd_fields(s: &[u8], counter: Field) -> PdFields
     ensures { result ≡ pd_fields s.now counter }
 {
     let c = common_fields(s, counter);
-    let common = c.common;
     let reserved = line::number(s, c.last, 8);
     let reply_com_id = line::number(s, reserved, 8);
     let reply_ip_address = line::number(s, reply_com_id, 8);
     PdFields {
         header: PdHeader {
-            common: common,
+            common: c.common,
             reserved: line::word(reserved),
             reply_com_id: line::word(reply_com_id),
             reply_ip_address: line::word(reply_ip_address),
@@ -70,174 +73,107 @@ pub fn pd_fields(s: &[u8], counter: Field) -> PdFields
     }
 }
 
-fn put_crc(d: &[u8], out: &mut [u8], at: usize) -> usize
-    ensures { Puts (crc_words d.now) at out.old result out.new }
-{
-    let p = answer::word(out, at, b"crc");
-    answer::number8(out, p, fcs::frame_check(d))
-}
-
 // `crc OCTETS`
-fn crc(s: &[u8], out: &mut [u8], at: usize) -> usize
-    ensures { Answers (crc_answer s.now) at out.old result out.new }
+fn crc(s: &[u8], out: &mut Room) -> Option<()>
+    ensures { Answered (crc_answer s.now) out.old result out.new }
 {
     let mut data = line::buffer();
     let d = line::octets(s, line::behind(3), &mut data);
     if d.is_bad {
-        return 0;
+        return None;
     }
-    let n = d.count;
-    put_crc(&data[..n], out, at)
+    out.word(b"crc");
+    out.number(fcs::frame_check(&data[..d.count]));
+    Some(())
 }
 
-fn take_pd(d: &[u8], out: &mut [u8], at: usize) -> usize
-    ensures { Puts (pdtake_words d.now) at out.old result out.new }
-{
-    match pd::take_pd(d) {
-        PdTaken::Header(h) => scenario_wire_words::put_pd(out, at, h),
-        PdTaken::Refused(r) => answer::refused(out, at, r),
-    }
-}
-
-// `pdtake OCTETS`
-fn pd_take(s: &[u8], out: &mut [u8], at: usize) -> usize
-    ensures { Answers (pdtake_answer s.now) at out.old result out.new }
+// `pdtake OCTETS`, `mdtake OCTETS`
+fn take<H: Shown>(s: &[u8], out: &mut Room) -> Option<()>
+    ensures { Answered (take_answer H.words (λ d. answered (first_of (checks H.family d)) (H.header_of d)) s.now)
+        out.old result out.new }
 {
     let mut data = line::buffer();
     let d = line::octets(s, line::behind(6), &mut data);
     if d.is_bad {
-        return 0;
+        return None;
     }
-    let n = d.count;
-    take_pd(&data[..n], out, at)
-}
-
-fn take_md(d: &[u8], out: &mut [u8], at: usize) -> usize
-    ensures { Puts (mdtake_words d.now) at out.old result out.new }
-{
-    match md::take_md(d) {
-        MdTaken::Header(h) => scenario_wire_words::put_md(out, at, h, d),
-        MdTaken::Refused(r) => answer::refused(out, at, r),
+    let datagram = &data[..d.count];
+    match telegram::take::<H>(datagram) {
+        Ok(h) => h.put(datagram, out),
+        Err(r) => out.refused(u8::from(r)),
     }
-}
-
-// `mdtake OCTETS`
-fn md_take(s: &[u8], out: &mut [u8], at: usize) -> usize
-    ensures { Answers (mdtake_answer s.now) at out.old result out.new }
-{
-    let mut data = line::buffer();
-    let d = line::octets(s, line::behind(6), &mut data);
-    if d.is_bad {
-        return 0;
-    }
-    let n = d.count;
-    take_md(&data[..n], out, at)
-}
-
-fn write_pd(h: PdHeader, dataset: &[u8], target: &mut [u8], out: &mut [u8], at: usize) -> usize
-    ensures { Puts (pd_wrote_words h target.old dataset.now) at out.old result out.new }
-{
-    let w = pd::write_pd(h, dataset, target);
-    scenario_wire_words::put_written(out, at, b"wrote", w, target)
+    Some(())
 }
 
 // `pdwrite SEQ VERSION TYPE COMID ETB OPTRN RESERVED REPLYCOMID REPLYIP ROOM OCTETS`
-fn pd_write(s: &[u8], out: &mut [u8], at: usize) -> usize
-    ensures { Answers (pdwrite_answer s.now) at out.old result out.new }
+fn pd_write(s: &[u8], out: &mut Room) -> Option<()>
+    ensures { Answered (pdwrite_answer s.now) out.old result out.new }
 {
     let f = pd_fields(s, line::number(s, line::behind(7), 8));
-    let h = f.header;
     let room = line::number(s, f.last, 4);
     let mut data = line::buffer();
     let d = line::octets(s, room, &mut data);
     if d.is_bad {
-        return 0;
+        return None;
     }
-    let n = d.count;
     let mut target = line::fresh_target();
     let e = line::room_of(room, &target);
-    write_pd(h, &data[..n], &mut target[..e], out, at)
-}
-
-fn write_md(
-    h: MdHeader,
-    id: &[u8; 16],
-    source: &[u8; 32],
-    destination: &[u8; 32],
-    dataset: &[u8],
-    target: &mut [u8],
-    out: &mut [u8],
-    at: usize,
-) -> usize
-    ensures { Puts (md_wrote_words h id.now source.now destination.now target.old dataset.now) at out.old result out.new }
-{
-    let w = md::write_md(h, id, source, destination, dataset, target);
-    scenario_wire_words::put_written(out, at, b"wrote", w, target)
+    let target = &mut target[..e];
+    let written = pd::write_pd(f.header, &data[..d.count], target);
+    scenario_wire_words::put_written(out, b"wrote", written, target);
+    Some(())
 }
 
 // `mdwrite SEQ VERSION TYPE COMID ETB OPTRN STATUS ID TIMEOUT SRCURI DSTURI ROOM OCTETS`
-fn md_write(s: &[u8], out: &mut [u8], at: usize) -> usize
-    ensures { Answers (mdwrite_answer s.now) at out.old result out.new }
+fn md_write(s: &[u8], out: &mut Room) -> Option<()>
+    ensures { Answered (mdwrite_answer s.now) out.old result out.new }
 {
-    let mut id = [0u8; 16];
-    let mut source = [0u8; 32];
-    let mut destination = [0u8; 32];
+    let mut session_id = [0u8; 16];
+    let mut source_uri = [0u8; 32];
+    let mut destination_uri = [0u8; 32];
     let f = common_fields(s, line::number(s, line::behind(7), 8));
-    let common = f.common;
     let status = line::number(s, f.last, 8);
-    let timeout = line::number(s, line::octets_field(s, status, &mut id), 8);
-    let uri = line::octets_field(s, timeout, &mut source);
-    let room = line::number(s, line::octets_field(s, uri, &mut destination), 4);
+    let timeout = line::number(s, line::octets_field(s, status, &mut session_id), 8);
+    let source = line::octets_field(s, timeout, &mut source_uri);
+    let room = line::number(s, line::octets_field(s, source, &mut destination_uri), 4);
     let mut data = line::buffer();
     let d = line::octets(s, room, &mut data);
     if d.is_bad {
-        return 0;
+        return None;
     }
-    let n = d.count;
-    let h = MdHeader {
-        common: common,
-        reply_status: octets::to_signed(line::word(status)),
-        reply_timeout: line::word(timeout),
+    let fields = MdFields {
+        header: MdHeader {
+            common: f.common,
+            reply_status: octets::to_signed(line::word(status)),
+            reply_timeout: line::word(timeout),
+        },
+        session_id: &session_id,
+        source_uri: &source_uri,
+        destination_uri: &destination_uri,
     };
     let mut target = line::fresh_target();
     let e = line::room_of(room, &target);
-    write_md(
-        h,
-        &id,
-        &source,
-        &destination,
-        &data[..n],
-        &mut target[..e],
-        out,
-        at,
-    )
-}
-
-// A line that writes a telegram answered.
-fn write(s: &[u8], out: &mut [u8], at: usize) -> usize
-    ensures { Answers (write_answer s.now) at out.old result out.new }
-{
-    if line::is_verb(s, b"pdwrite") {
-        return pd_write(s, out, at);
-    }
-    if line::is_verb(s, b"mdwrite") {
-        return md_write(s, out, at);
-    }
-    0
+    let target = &mut target[..e];
+    let written = md::write_md(&fields, &data[..d.count], target);
+    scenario_wire_words::put_written(out, b"wrote", written, target);
+    Some(())
 }
 
 // A line of one of these verbs answered.
-pub fn answer(s: &[u8], out: &mut [u8], at: usize) -> usize
-    ensures { Answers (wire_answer s.now) at out.old result out.new }
+pub fn answer(s: &[u8], out: &mut Room) -> Option<()>
+    ensures { Answered (wire_answer s.now) out.old result out.new }
 {
     if line::is_verb(s, b"crc") {
-        return crc(s, out, at);
+        crc(s, out)
+    } else if line::is_verb(s, b"pdtake") {
+        take::<PdHeader>(s, out)
+    } else if line::is_verb(s, b"mdtake") {
+        take::<MdHeader>(s, out)
+    } else if line::is_verb(s, b"pdwrite") {
+        pd_write(s, out)
+    } else if line::is_verb(s, b"mdwrite") {
+        md_write(s, out)
+    } else {
+        None
     }
-    if line::is_verb(s, b"pdtake") {
-        return pd_take(s, out, at);
-    }
-    if line::is_verb(s, b"mdtake") {
-        return md_take(s, out, at);
-    }
-    write(s, out, at)
 }

@@ -1,9 +1,9 @@
 -- What the calls over telegrams answer, in words.
-use Rattle.std.specs.Prelude.{ℕ, List, ◌++◌}
+use Rattle.std.specs.Prelude.{ℕ, List, ◌++◌, Ok, Err, Result}
 use Rattle.octets.specs.Octets.{unsigned}
 use Rattle.telegram.specs.declared.Common.{Common}
-use Rattle.telegram.specs.declared.Written.{Written}
-use Rattle.telegram.specs.declared.Written.TheVariants as written
+use Rattle.refusal.specs.declared.Refusal.{Refusal}
+use Rattle.refusal.specs.Refusal as refusal
 use Rattle.pd.specs.declared.PdHeader.{PdHeader}
 use Rattle.md.specs.declared.MdHeader.{MdHeader}
 use Rattle.md.specs.Md as md
@@ -44,6 +44,6 @@ unfoldable pub md_words : MdHeader → List ℕ → List (List ℕ)
 md_words h d = word "header" ++ common_words h.common ++ session_words h d
 
 -- a writer's answer beside its target: a word, LENGTH and the whole TARGET; or the refusal
-abbrev pub written_words : List ℕ → Written → List ℕ → List (List ℕ)
-written_words done (written.Octets n) target = target_words done n target
-written_words done (written.Refused r) target = refused r
+abbrev pub written_words : List ℕ → Result ℕ Refusal → List ℕ → List (List ℕ)
+written_words done (Ok n) target = target_words done n target
+written_words done (Err r) target = refused (refusal.number r)

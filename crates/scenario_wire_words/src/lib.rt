@@ -1,70 +1,81 @@
 // What the calls over telegrams answer, in words.
 #![tactic(auto)]
 
-ghost use Rattle.answer.specs.Answer.{Puts};
+ghost use Rattle.std.specs.Prelude.{ℕ, List};
+ghost use Rattle.answer.specs.Lent.{Fills};
 ghost use Rattle.scenario_wire_words.specs.Words.{common_words, pd_words, session_words, md_words, written_words};
 
+use answer::Room;
 use md::MdHeader;
 use pd::PdHeader;
-use telegram::{Common, Written};
+use refusal::Refusal;
+use telegram::{Common, Header};
 
 // SEQ VERSION TYPE COMID ETB OPTRN LENGTH
-fn put_common(out: &mut [u8], at: usize, c: Common) -> usize
-    ensures { Puts (common_words c) at out.old result out.new }
+fn put_common(out: &mut Room, c: Common)
+    ensures { Fills (common_words c) out.old out.new }
 {
-    let p = answer::number8(out, at, c.sequence_counter);
-    let p = answer::number4(out, p, c.protocol_version);
-    let p = answer::number4(out, p, c.msg_type);
-    let p = answer::number8(out, p, c.com_id);
-    let p = answer::number8(out, p, c.etb_topo_cnt);
-    let p = answer::number8(out, p, c.op_trn_topo_cnt);
-    answer::number8(out, p, c.dataset_length)
-}
-
-// `header` and the fields of a PD header
-pub fn put_pd(out: &mut [u8], at: usize, h: PdHeader) -> usize
-    ensures { Puts (pd_words h) at out.old result out.new }
-{
-    let c = h.common;
-    let p = answer::word(out, at, b"header");
-    let p = put_common(out, p, c);
-    let p = answer::number8(out, p, h.reserved);
-    let p = answer::number8(out, p, h.reply_com_id);
-    answer::number8(out, p, h.reply_ip_address)
+    out.number(c.sequence_counter);
+    out.number(c.protocol_version);
+    out.number(c.msg_type);
+    out.number(c.com_id);
+    out.number(c.etb_topo_cnt);
+    out.number(c.op_trn_topo_cnt);
+    out.number(c.dataset_length);
 }
 
 // STATUS ID TIMEOUT SRCURI DSTURI; identifier and URIs stand in the datagram
-fn put_session(out: &mut [u8], at: usize, h: MdHeader, d: &[u8]) -> usize
-    ensures { Puts (session_words h d.now) at out.old result out.new }
+fn put_session(out: &mut Room, h: MdHeader, d: &[u8])
+    ensures { Fills (session_words h d.now) out.old out.new }
 {
-    let id = md::session_id(d);
-    let p = answer::number8(out, at, octets::to_unsigned(h.reply_status));
-    let p = answer::octets(out, p, &id);
-    let p = answer::number8(out, p, h.reply_timeout);
-    let p = answer::octets(out, p, md::source_uri(d));
-    answer::octets(out, p, md::destination_uri(d))
+    out.number(octets::to_unsigned(h.reply_status));
+    out.octets(&md::session_id(d));
+    out.number(h.reply_timeout);
+    out.octets(md::source_uri(d));
+    out.octets(md::destination_uri(d));
+}
+
+// A header that is put in words; an identifier and URIs stand in its datagram.
+pub trait Shown: Header {
+    ghost words: { Self → List ℕ → List (List ℕ) };
+
+    fn put(self, d: &[u8], out: &mut Room)
+        ensures { Fills (words self d.now) out.old out.new };
+}
+
+// `header` and the fields of a PD header
+impl Shown for PdHeader {
+    ghost words = { λ h d. pd_words h };
+
+    fn put(self, _d: &[u8], out: &mut Room) {
+        out.word(b"header");
+        put_common(out, self.common);
+        out.number(self.reserved);
+        out.number(self.reply_com_id);
+        out.number(self.reply_ip_address);
+    }
 }
 
 // `header` and the fields of an MD header
-pub fn put_md(out: &mut [u8], at: usize, h: MdHeader, d: &[u8]) -> usize
-    ensures { Puts (md_words h d.now) at out.old result out.new }
-{
-    let c = h.common;
-    let p = answer::word(out, at, b"header");
-    let p = put_common(out, p, c);
-    put_session(out, p, h, d)
+impl Shown for MdHeader {
+    ghost words = { md_words };
+
+    fn put(self, d: &[u8], out: &mut Room) {
+        out.word(b"header");
+        put_common(out, self.common);
+        put_session(out, self, d);
+    }
 }
 
 // How many octets were written and the whole target, or the refusal.
-pub fn put_written(out: &mut [u8], at: usize, done: &[u8], w: Written, target: &[u8]) -> usize
-    ensures { Puts (written_words done.now w target.now) at out.old result out.new }
+pub fn put_written(out: &mut Room, done: &[u8], written: Result<usize, Refusal>, target: &[u8])
+    ensures { Fills (written_words done.now written target.now) out.old out.new }
 {
-    match w {
-        Written::Octets(n) => {
-            let p = answer::word(out, at, done);
-            let p = answer::decimal(out, p, n as u64);
-            answer::octets(out, p, target)
+    match written {
+        Ok(n) => {
+            out.word_of(done, n);
+            out.octets(target);
         }
-        Written::Refused(r) => answer::refused(out, at, r),
+        Err(r) => out.refused(u8::from(r)),
     }
 }

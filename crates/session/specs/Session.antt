@@ -2,6 +2,9 @@
 use Rattle.std.specs.Prelude.{ℕ, Bool, true, false, cond, not, ◌&&◌, ◌||◌, List, eqb, ℤ, pos, negsuc, replicate}
 use Rattle.md.specs.Uri.{equal}
 use Rattle.timing.specs.Timing.{time_up}
+use Rattle.timing.specs.declared.Timing.{Timing}
+use Rattle.session.specs.declared.Kind.{Kind}
+use Rattle.session.specs.declared.Kind.TheVariants.{Mn, Mr, Mp, Mq, Mc, Me}
 use Rattle.session.specs.declared.Session.{Session}
 use Rattle.session.specs.declared.SessionState.{SessionState}
 use Rattle.session.specs.declared.Waits.{Waits}
@@ -87,4 +90,31 @@ is_reply type = eqb type 0x4D70 || eqb type 0x4D71
 -- with Mp frees, with Mq waits for confirm with the user's timeout
 abbrev pub answered : ℕ → ℕ → ℕ → Session → Session
 answered type timeout time x =
-    cond (eqb type 0x4D70) free_session (record { id = x.id; state = WaitingForConfirm (record { start = time; timeout = timeout }) })
+    cond (eqb type 0x4D70) free_session
+    (record { id = x.id; state = WaitingForConfirm (record { start = time; timeout = timeout }) })
+
+-- ---- the types
+
+-- the six types; checks 2 to 6 let no other in
+unfoldable pub kind_of : ℕ → Kind
+kind_of t =
+    cond (eqb t 0x4D6E) Mn
+    (cond (eqb t 0x4D72) Mr (cond (eqb t 0x4D70) Mp (cond (eqb t 0x4D71) Mq (cond (eqb t 0x4D63) Mc Me))))
+
+-- ---- a state's number and timing
+
+-- 0 free, 1 waiting for reply, 2 owing a confirm, 3 with the user, 4 waiting for confirm
+abbrev pub state_number : SessionState → ℕ
+state_number Free = 0
+state_number (WaitingForReply t) = 1
+state_number (OwingConfirm t) = 2
+state_number (WithUser t) = 3
+state_number (WaitingForConfirm t) = 4
+
+-- start and timeout of a waiting state; zeros of a free one
+abbrev pub timing_of : SessionState → Timing
+timing_of Free = record { start = 0; timeout = 0 }
+timing_of (WaitingForReply t) = t
+timing_of (OwingConfirm t) = t
+timing_of (WithUser t) = t
+timing_of (WaitingForConfirm t) = t

@@ -1,61 +1,57 @@
--- What checks 2 to 7 and 20 make of a datagram, by what the code has found of it.
+-- What checks 2 to 7 and 20 make of a datagram.
 -- Assumes nothing.
 use mathlib.Core.Path.{◌≡◌, refl, ap, ◌∙◌}
-use mathlib.Core.Bool.{Bool, true, false, cond, not, ◌&&◌}
+use mathlib.Core.Bool.{not, ◌&&◌}
 use mathlib.Core.List.{List, [], ◌∷◌}
-use Prim.Native.Nat.{ℕ, zero, suc}
-use Rattle.refusal.specs.Refusal.{first_of, answer, topography, uri, ◌when◌}
-use Rattle.refusal.proofs.Order.{or_else, first_of-append}
-use Rattle.arrival.specs.Arrival.{counts_of, topography_check, arrival_checks}
+use Prim.Native.Nat.{ℕ}
+use Rattle.std.specs.Prelude.{Ok, Err, Result}
+use Rattle.refusal.specs.declared.Refusal.{Refusal}
+use Rattle.refusal.specs.declared.Refusal.TheVariants.{Uri}
+use Rattle.refusal.specs.Refusal.{Check, ◌when◌, first_of, answer}
+use Rattle.refusal.proofs.Order.{and_then, first_of-append}
+use Rattle.refusal.proofs.Answer.{opened}
 use Rattle.arrival.specs.declared.Arrival.{Arrival}
-use Rattle.topography.specs.Topography.{passes}
+use Rattle.md.specs.declared.MdHeader.{MdHeader}
+use Rattle.arrival.specs.Arrival.{topography_check, arrival_checks}
 use Rattle.telegram.specs.Telegram.{checks}
 use Rattle.telegram.specs.declared.Family.TheVariants as family
-use Rattle.md.specs.declared.MdHeader.{MdHeader}
-use Rattle.md.specs.declared.MdTaken.TheVariants as md
 use Rattle.md.specs.Uri.{sound}
-use Rattle.md.specs.Md.{header_of, take_md, source_uri_of, destination_uri_of}
-use Rattle.md.proofs.Taken.{apart, taken}
+use Rattle.md.specs.Md.{header_of, source_uri_of, destination_uri_of}
 use Rattle.session_table.specs.Table.{Tables}
 use Rattle.session_table.specs.Table as table
 use Rattle.session_table.specs.Table.{judged, judged_by, heard_of, md_checks, telegram, refused_plain}
 
 module _ (a : Arrival) (d : List ℕ) where
-  abbrev pub sounds : Bool
-  sounds = sound (source_uri_of d) && sound (destination_uri_of d)
-
-  in_order : first_of (md_checks a d) ≡ or_else (or_else (first_of (checks family.Md d)) (first_of (topography_check a d ∷ []))) (first_of (uri when not sounds ∷ []))
+  -- 2 to 6, then 7, then 20
+  pub in_order : first_of (md_checks a d)
+      ≡ and_then (and_then (first_of (checks family.Md d)) (first_of (topography_check a d ∷ [])))
+      (first_of (Uri when not (sound (source_uri_of d) && sound (destination_uri_of d)) ∷ []))
   in_order =
-      first_of-append (arrival_checks family.Md a d) (uri when not sounds ∷ []) tt
-      ∙ ap (λ (v : ℕ). or_else v (first_of (uri when not sounds ∷ []))) (first_of-append (checks family.Md d) (topography_check a d ∷ []) tt)
+      let uri : List Check = Uri when not (sound (source_uri_of d) && sound (destination_uri_of d)) ∷ [] in
+      first_of-append (arrival_checks family.Md a d) uri
+      ∙ ap (λ (v : Result (Unit {0}) Refusal). and_then v (first_of uri))
+      (first_of-append (checks family.Md d) (topography_check a d ∷ []))
 
-  -- 2 to 6: a datagram that was not taken apart
-  pub not_taken : (n : ℕ) → take_md d ≡ md.Refused n → judged a d ≡ table.refusal n
+  -- the header, or the first refusal of 2 to 7 and 20
+  abbrev pub taken : Result MdHeader Refusal
+  taken = answer (first_of (md_checks a d)) (header_of d)
+
+  pub not_passed : (r : Refusal) → taken ≡ Err r → judged a d ≡ table.refusal r
   unfolding judged
-  not_taken n e = rw in_order (go (first_of (checks family.Md d)) e)
+  not_passed r e = go (first_of (md_checks a d)) e
     where
-      go : (v : ℕ) → answer md.Header md.Refused v (header_of d) ≡ md.Refused n
-          → judged_by (or_else (or_else v (first_of (topography_check a d ∷ []))) (first_of (uri when not sounds ∷ []))) (heard_of a d) ≡ table.refusal n
-      go zero q = absurd (apart (header_of d) n q)
-      go (suc v) q = let z : suc v ≡ n = cc in ap table.refusal z
+      go : (v : Result (Unit {0}) Refusal) → answer v (header_of d) ≡ Err r
+          → judged_by v (heard_of a d) ≡ table.refusal r
+      go (Ok v) q = cc
+      go (Err n) q = let z : n ≡ r = cc in ap table.refusal z
 
-  -- one that was: 7, then 20
-  module _ (x : MdHeader) (e : take_md d ≡ md.Header x) where
-    weighed : judged a d ≡ judged_by (or_else (cond (not (passes (counts_of x.common) a.local)) topography 0) (cond (not sounds) uri 0)) (heard_of a d)
-    unfolding judged
-    weighed =
-        ap (λ (v : ℕ). judged_by v (heard_of a d)) (in_order ∙ ap (λ (v : ℕ). or_else (or_else v (first_of (topography_check a d ∷ []))) (first_of (uri when not sounds ∷ []))) (taken d x e).0)
-        ∙ ap (λ (y : MdHeader). judged_by (or_else (cond (not (passes (counts_of y.common) a.local)) topography 0) (cond (not sounds) uri 0)) (heard_of a d)) (taken d x e).1
+  pub passes-all : (h : MdHeader) → taken ≡ Ok h → judged a d ≡ table.passed (heard_of a d)
+  unfolding judged
+  passes-all h e =
+      ap (λ (v : Result (Unit {0}) Refusal). judged_by v (heard_of a d))
+      (opened (first_of (md_checks a d)) (header_of d) h e).0
 
-    pub not_local : passes (counts_of x.common) a.local ≡ false → judged a d ≡ table.refusal topography
-    not_local p = weighed ∙ rw p
-
-    pub not_sound : passes (counts_of x.common) a.local ≡ true → sounds ≡ false → judged a d ≡ table.refusal uri
-    not_sound p s = weighed ∙ rw (p, s)
-
-    pub passes-all : passes (counts_of x.common) a.local ≡ true → sounds ≡ true → judged a d ≡ table.passed (heard_of a d)
-    passes-all p s = weighed ∙ rw (p, s)
-
-  pub refused-step : (t : Tables) (n : ℕ) → judged a d ≡ table.refusal n → table.step (telegram a d) t ≡ record { answer = refused_plain n; after = t }
+  pub refused-step : (t : Tables) (r : Refusal) → judged a d ≡ table.refusal r
+      → table.step (telegram a d) t ≡ record { answer = refused_plain r; after = t }
   unfolding table.step
-  refused-step t n j = rw j refl
+  refused-step t r j = rw j refl

@@ -1,5 +1,4 @@
 pub mod Searches
 pub mod Rules
 pub mod Judged
-pub mod ByType
 pub mod Refused

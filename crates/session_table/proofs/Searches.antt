@@ -1,60 +1,85 @@
--- The loops that look through a table of sixteen, one slot a turn.
+-- A search that goes from slot to slot finds the lowest that passes.
 -- Assumes nothing.
 use mathlib.Core.Path.{◌≡◌, refl, sym, ap, ◌∙◌}
 use mathlib.Core.Bool.{Bool, true, false, cond, ◌||◌}
 use mathlib.Core.List.{List, [], ◌∷◌}
 use mathlib.Core.Option.{Option, none, some}
-use Prim.Native.Nat.{ℕ, ◌+◌, ◌<◌, ◌≤◌}
+use Prim.Native.Nat.{ℕ, zero, suc, ◌<◌, ◌≤◌}
 use native.Mathlib.Omega.{arith}
-use lib.ListN.{length, get_or, drop}
-use Rattle.tables.proofs.Lists.{shift, lowest_start, lowest-here, lowest-next, lowest-end}
+use lib.ListN.{length, get_or}
+use Rattle.std.specs.Prelude.{Some, None, Ok, Err}
+use Rattle.std.specs.Option.{MatchOption, is_some, ok_or}
+use Rattle.std.specs.Prelude as code
 use Rattle.tables.specs.Lists.{any, lowest, next}
-use Rattle.session_table.specs.declared.Found.{Found}
-use Rattle.session_table.specs.declared.Found.TheVariants.{At, Nothing}
-use Rattle.session_table.specs.Sought.{found_of, is_found}
+use Rattle.session_table.specs.Sought.{found_of}
 
-module _ {X : Type 0} (p : X → Bool) (xs : List X) where
-  -- the lowest that passes is the lowest from i on
-  abbrev pub Sought : ℕ → Type 0
-  Sought i = (i ≤ 16) × (length xs ≡ 16) × (lowest p xs ≡ shift i (lowest p (drop i xs)))
+module _ {X : Type 0} (p : X → Bool) (d : X) where
+  lowest-first : (xs : List X) (i : ℕ) → i < length xs → p (get_or xs i d) ≡ true
+      → ((k : ℕ) → k < i → p (get_or xs k d) ≡ false) → lowest p xs ≡ some i
+  lowest-first [] i h e n = absurd (omega arith)
+  lowest-first (x ∷ xs) zero h e n = rw e refl
+  lowest-first (x ∷ xs) (suc i) h e n =
+      rw (n zero (omega arith), lowest-first xs i (omega arith) e (λ k l. n (suc k) (omega arith))) refl
 
-  pub sought-start : length xs ≡ 16 → Sought 0
-  sought-start n = (omega arith, n, lowest_start p xs)
+  lowest_none : (xs : List X) → ((k : ℕ) → k < length xs → p (get_or xs k d) ≡ false) → lowest p xs ≡ none
+  lowest_none [] n = refl
+  lowest_none (x ∷ xs) n = rw (n zero (omega arith), lowest_none xs (λ k l. n (suc k) (omega arith))) refl
 
-  -- d stands behind the table's end
-  module _ (d : X) (i : ℕ) where
-    pub sought-here : Sought i → i < 16 → p (get_or xs i d) ≡ true → At i ≡ found_of (lowest p xs)
-    sought-here (_, n, s) h e = ap found_of (sym (s ∙ lowest-here p d xs i (omega arith) e))
+  -- what is known of the answer for each slot of a table that it is asked of
+  abbrev pub Answers : List X → ℕ → Bool → ℕ → Type 0
+  Answers xs n b k = k < n → p (get_or xs k d) ≡ b
 
-    pub sought-next : Sought i → i < 16 → p (get_or xs i d) ≡ false → Sought (i + 1)
-    sought-next (_, n, s) h e = (omega arith, n, s ∙ lowest-next p d xs i (omega arith) e)
-
-    pub sought-end : Sought i → 16 ≤ i → Nothing ≡ found_of (lowest p xs)
-    sought-end (_, n, s) h = ap found_of (sym (s ∙ lowest-end p d xs i (omega arith)))
+  -- the slots are asked from the first on
+  pub first-found : (xs : List X) (n : ℕ) (r : code.Option ℕ) → length xs ≡ n
+      → MatchOption r ((k : ℕ) → 0 ≤ k → k < n → Answers xs n false k)
+      (λ i. (0 ≤ i) × (i < n) × Answers xs n true i × ((k : ℕ) → 0 ≤ k → k < i → Answers xs n false k))
+      → r ≡ found_of (lowest p xs)
+  first-found xs n None l m = ap found_of (sym (lowest_none xs (λ k h. m k (omega arith) (omega arith) (omega arith))))
+  first-found xs n (Some i) l m =
+      let h : i < n = m.1 in
+      ap found_of (sym (lowest-first xs i (omega arith) (m.2 h) (λ k q. m.3 k (omega arith) q (omega arith))))
 
 -- one passes exactly where a lowest one is found
-any_found : {X : Type 0} (p : X → Bool) (xs : List X) → any p xs ≡ is_found (found_of (lowest p xs))
+any_found : {X : Type 0} (p : X → Bool) (xs : List X) → any p xs ≡ is_some (found_of (lowest p xs))
 any_found p [] = refl
 any_found p (x ∷ xs) = go (p x) (any_found p xs)
   where
-    later : (l : Option ℕ) → is_found (found_of l) ≡ is_found (found_of (next l))
+    later : (l : Option ℕ) → is_some (found_of l) ≡ is_some (found_of (next l))
     later none = refl
     later (some k) = refl
 
-    go : (b : Bool) → any p xs ≡ is_found (found_of (lowest p xs)) → b || any p xs ≡ is_found (found_of (cond b (some 0) (next (lowest p xs))))
+    go : (b : Bool) → any p xs ≡ is_some (found_of (lowest p xs))
+        → b || any p xs ≡ is_some (found_of (cond b (some 0) (next (lowest p xs))))
     go true e = refl
     go false e = e ∙ later (lowest p xs)
 
 -- .. so a search asks whether one passes
-pub asked : {X : Type 0} (p : X → Bool) (xs : List X) (f : Found) (b c : Bool) → f ≡ found_of (lowest p xs) → b ≡ is_found f → b ≡ c → any p xs ≡ c
-asked p xs f b c e s h = any_found p xs ∙ ap is_found (sym e) ∙ sym s ∙ h
+pub asked : {X : Type 0} (p : X → Bool) (xs : List X) (f : code.Option ℕ) (b c : Bool) → f ≡ found_of (lowest p xs)
+    → b ≡ is_some f → b ≡ c → any p xs ≡ c
+asked p xs f b c e s h = any_found p xs ∙ ap is_some (sym e) ∙ sym s ∙ h
 
--- what was found
+-- ---- what was found
 
-pub found_none : (o : Option ℕ) → found_of o ≡ Nothing → o ≡ none
+pub found_none : (o : Option ℕ) → found_of o ≡ None → o ≡ none
 found_none none e = refl
-found_none (some k) e = let z : ◌≡◌ {A = ℕ} 0 1 = cc in absurd (omega arith)
+found_none (some k) e = cc
 
-pub found_some : (o : Option ℕ) (k : ℕ) → found_of o ≡ At k → o ≡ some k
-found_some none k e = let z : ◌≡◌ {A = ℕ} 0 1 = cc in absurd (omega arith)
+pub found_some : (o : Option ℕ) (k : ℕ) → found_of o ≡ Some k → o ≡ some k
+found_some none k e = cc
 found_some (some j) k e = let z : j ≡ k = cc in ap some z
+
+-- .. or refused for want of one
+module _ {E : Type 0} (o : Option ℕ) (n : E) where
+  pub refused-none : (e : E) → ok_or (found_of o) n ≡ Err e → (o ≡ none) × (e ≡ n)
+  refused-none e q = go o q
+    where
+      go : (p : Option ℕ) → ok_or (found_of p) n ≡ Err e → (p ≡ none) × (e ≡ n)
+      go none q = let z : e ≡ n = cc in (refl, z)
+      go (some k) q = cc
+
+  pub granted-some : (k : ℕ) → ok_or (found_of o) n ≡ Ok k → o ≡ some k
+  granted-some k q = go o q
+    where
+      go : (p : Option ℕ) → ok_or (found_of p) n ≡ Ok k → p ≡ some k
+      go none q = cc
+      go (some j) q = let z : j ≡ k = cc in ap some z

@@ -1,40 +1,36 @@
 -- What the code's answers mean, and where a session is opened.
-use Rattle.std.specs.Prelude.{ℕ, Bool, true, false, List, set}
+use Rattle.std.specs.Prelude.{ℕ, Bool, true, false, List, set, Ok, Err, Result}
 use Rattle.std.proofs.Math.Option.{Option, none, some}
-use Rattle.refusal.specs.Refusal.{session_in_use}
-use Rattle.session_table.specs.declared.Answer.{Answer}
-use Rattle.session_table.specs.declared.Answer.TheVariants.{Listening, Freed, Opened, Notified, Requested, Taken, Replied, Confirmed, Refused}
-use Rattle.session_table.specs.declared.Place.{Place}
-use Rattle.session_table.specs.declared.Place.TheVariants.{Slot, InUse, Full}
+use Rattle.refusal.specs.declared.Refusal.{Refusal}
+use Rattle.refusal.specs.declared.Refusal.TheVariants.{SessionInUse, NoFreeSession}
+use Rattle.session_table.specs.declared.Arrived.{Arrived}
+use Rattle.session_table.specs.declared.Arrived.TheVariants.{Notified, Requested, Taken}
+use Rattle.session_table.specs.declared.MdRefusal.{MdRefusal}
 use Rattle.session.specs.declared.Session.{Session}
 use Rattle.session_table.specs.Table as table
 
--- document 01's answer, for each case of the code's
-abbrev pub meaning : Answer → table.Answer
-meaning (Listening k) = table.listening k
-meaning Freed = table.freed
-meaning (Opened k) = table.opened k
-meaning (Notified l) = table.notified l
-meaning (Requested l k) = table.requested l k
-meaning (Taken status k) = table.taken status k
-meaning Replied = table.replied
-meaning Confirmed = table.confirmed
-meaning (Refused r status) = table.refused r status
+-- document 01's answer to a call of the user's
+abbrev pub told : {G : Type 0} → (G → table.Answer) → Result G Refusal → table.Answer
+told f (Ok g) = f g
+told f (Err r) = table.refused_plain r
+
+-- .. and to an arriving telegram
+abbrev pub arrived : Arrived → table.Answer
+arrived (Notified l) = table.notified l
+arrived (Requested l k) = table.requested l k
+arrived (Taken status k) = table.taken status k
+
+abbrev pub heard : Result Arrived MdRefusal → table.Answer
+heard (Ok a) = arrived a
+heard (Err e) = table.refused e.refusal e.status
 
 -- where a session is opened, or why not: 17, 18
-abbrev pub place_of : Bool → Option ℕ → Place
-place_of true o = InUse
-place_of false none = Full
-place_of false (some k) = Slot k
+abbrev pub place_of : Bool → Option ℕ → Result ℕ Refusal
+place_of true o = Err SessionInUse
+place_of false none = Err NoFreeSession
+place_of false (some k) = Ok k
 
 -- the sessions in which a place was given a new record
-abbrev pub placed : Place → Session → List Session → List Session
-placed InUse x xs = xs
-placed Full x xs = xs
-placed (Slot k) x xs = set xs k x
-
--- what an opening answers: 17, what a full table answers, or the slot
-abbrev pub place_answer : (ℕ → table.Answer) → table.Answer → Place → table.Answer
-place_answer given full InUse = table.refused_plain session_in_use
-place_answer given full Full = full
-place_answer given full (Slot k) = given k
+abbrev pub placed : Result ℕ Refusal → Session → List Session → List Session
+placed (Ok k) x xs = set xs k x
+placed (Err r) x xs = xs

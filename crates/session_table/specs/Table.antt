@@ -1,7 +1,9 @@
 -- The listeners and sessions, and what each call answers and leaves. Document 01, Message sessions.
-use Rattle.std.specs.Prelude.{ℕ, zero, suc, Bool, cond, not, ◌&&◌, List, [], ◌∷◌, ◌++◌, map, eqb, ℤ, pos, negsuc, get_or, set, replicate}
+use Rattle.std.specs.Prelude.{ℕ, Bool, cond, not, ◌&&◌, List, [], ◌∷◌, ◌++◌, map, ℤ, pos, negsuc, Ok, Err, Result, get_or, set, replicate}
 use Rattle.std.proofs.Math.Option.{Option, none, some}
-use Rattle.refusal.specs.Refusal.{Check, ◌when◌, first_of, msg_type, no_match, no_slot, range, filter_in_use, no_free_slot, session_in_use, no_free_session, no_session, uri}
+use Rattle.refusal.specs.Refusal.{Check, ◌when◌, first_of}
+use Rattle.refusal.specs.declared.Refusal.{Refusal}
+use Rattle.refusal.specs.declared.Refusal.TheVariants as refusals
 use Rattle.address.specs.SenderRange.{reversed}
 use Rattle.address.specs.declared.SenderRange.{SenderRange}
 use Rattle.arrival.specs.Arrival.{arrival_checks}
@@ -18,7 +20,9 @@ use Rattle.session.specs.declared.SessionState.{SessionState}
 use Rattle.session.specs.declared.SessionState.TheVariants.{WaitingForReply, OwingConfirm, WithUser}
 use Rattle.session.specs.Listener.{free_listener, new_listener, hears, holds}
 use Rattle.session.specs.Session.{free_session, is_free, waits_for_reply, owes_confirm, is_with_user, waits_for_confirm, has, code_of, expired}
-pub use Rattle.session.specs.Session.{can_take, answered, is_reply}
+pub use Rattle.session.specs.declared.Kind.{Kind}
+pub use Rattle.session.specs.Session.{can_take, answered, is_reply, kind_of}
+use Rattle.session.specs.declared.Kind.TheVariants.{Mn, Mr, Mp, Mq, Mc, Me}
 
 pub record Tables : Type 0 where
   pub listeners : List Listener
@@ -49,18 +53,20 @@ pub data Answer : Type 0 where
   replied : Answer
   confirmed : Answer
   codes : List ℤ → Answer
-  -- a refusal's number and the status that it carries
-  refused : ℕ → ℤ → Answer
+  -- a refusal and the status that it carries
+  refused : Refusal → ℤ → Answer
 
 -- a refusal that carries no status
-abbrev pub refused_plain : ℕ → Answer
+abbrev pub refused_plain : Refusal → Answer
 refused_plain r = refused r (pos 0)
 
 -- ---- a telegram, and what checks 2 to 7 and 20 make of it
 
 -- 2 to 7, then 20
 abbrev pub md_checks : Arrival → List ℕ → List Check
-md_checks a d = arrival_checks family.Md a d ++ (uri when not (sound (source_uri_of d) && sound (destination_uri_of d)) ∷ [])
+md_checks a d =
+    arrival_checks family.Md a d ++
+    (refusals.Uri when not (sound (source_uri_of d) && sound (destination_uri_of d)) ∷ [])
 
 pub record Heard : Type 0 where
   pub type : ℕ
@@ -86,35 +92,27 @@ heard_of a d =
     }
 
 pub data Judged : Type 0 where
-  refusal : ℕ → Judged
+  refusal : Refusal → Judged
   passed : Heard → Judged
 
-abbrev pub judged_by : ℕ → Heard → Judged
-judged_by zero h = passed h
-judged_by (suc r) h = refusal (suc r)
+abbrev pub judged_by : Result (Unit {0}) Refusal → Heard → Judged
+judged_by (Ok v) h = passed h
+judged_by (Err r) h = refusal r
 
 unfoldable pub judged : Arrival → List ℕ → Judged
 judged a d = judged_by (first_of (md_checks a d)) (heard_of a d)
-
--- ---- the types
-
-pub data Kind : Type 0 where
-  mn mr mp mq mc me : Kind
-
--- the six types; checks 2 to 6 let no other in
-unfoldable pub kind_of : ℕ → Kind
-kind_of t = cond (eqb t 0x4D6E) mn (cond (eqb t 0x4D72) mr (cond (eqb t 0x4D70) mp (cond (eqb t 0x4D71) mq (cond (eqb t 0x4D63) mc me))))
 
 -- ---- the calls, over sessions
 
 -- 17, 18, else the lowest free session
 abbrev pub opening : (ℕ → Answer) → Answer → List ℕ → SessionState → List Session → Outcome Answer (List Session)
 opening given full id state xs =
-    grant (cond (any (has id) xs) (some (refused_plain session_in_use)) none) (lowest (λ x. is_free x.state) xs) full given (record { id = id; state = state }) xs
+    grant (cond (any (has id) xs) (some (refused_plain refusals.SessionInUse)) none) (lowest (λ x. is_free x.state) xs)
+    full given (record { id = id; state = state }) xs
 
 -- the lowest session of that identifier that can take this, or 19
 abbrev pub taken_at : Option ℕ → (Session → Session) → ℤ → List Session → Outcome Answer (List Session)
-taken_at none f status xs = record { answer = refused_plain no_session; after = xs }
+taken_at none f status xs = record { answer = refused_plain refusals.NoSession; after = xs }
 taken_at (some k) f status xs = record { answer = taken status k; after = set xs k (f (get_or xs k free_session)) }
 
 abbrev pub taking : (SessionState → Bool) → (Session → Session) → Heard → List Session → Outcome Answer (List Session)
@@ -131,8 +129,9 @@ owing h x = record { id = x.id; state = OwingConfirm (record { start = h.time; t
 -- 10, 19, or the session after it
 abbrev pub at_session : (SessionState → Bool) → Answer → (Session → Session) → Session → Outcome Answer Session
 at_session in' done f x =
-    cond (is_free x.state) (record { answer = refused_plain no_slot; after = x })
-    (cond (in' x.state) (record { answer = done; after = f x }) (record { answer = refused_plain no_session; after = x }))
+    cond (is_free x.state) (record { answer = refused_plain refusals.NoSlot; after = x })
+    (cond (in' x.state) (record { answer = done; after = f x })
+    (record { answer = refused_plain refusals.NoSession; after = x }))
 
 -- ---- the calls, over both tables
 
@@ -145,26 +144,29 @@ with_listeners xs o = record { answer = o.answer; after = record { listeners = o
 -- 11, 20, 12
 abbrev pub listen_checks : ℕ → SenderRange → List ℕ → List Listener → List Check
 listen_checks com_id senders u ls =
-    range when reversed senders ∷ uri when not (sound u) ∷ filter_in_use when any (holds com_id senders u) ls ∷ []
+    refusals.Range when reversed senders ∷ refusals.Uri when not (sound u) ∷ refusals.FilterInUse when any
+    (holds com_id senders u) ls ∷ []
 
-abbrev pub earlier : ℕ → Option Answer
-earlier zero = none
-earlier (suc r) = some (refused_plain (suc r))
+abbrev pub earlier : Result (Unit {0}) Refusal → Option Answer
+earlier (Ok v) = none
+earlier (Err r) = some (refused_plain r)
 
 abbrev pub unlistened : Listener → Outcome Answer Listener
-unlistened l = cond l.used (record { answer = freed; after = free_listener }) (record { answer = refused_plain no_slot; after = l })
+unlistened l =
+    cond l.used (record { answer = freed; after = free_listener })
+    (record { answer = refused_plain refusals.NoSlot; after = l })
 
 -- Mn: 8; no session
 abbrev pub notifying : Option ℕ → List Session → Outcome Answer (List Session)
-notifying none xs = record { answer = refused_plain no_match; after = xs }
+notifying none xs = record { answer = refused_plain refusals.NoMatch; after = xs }
 notifying (some l) xs = record { answer = notified l; after = xs }
 
 -- Mr's 8 carries status -3, its 18 carries -4, for the Me to be sent
 abbrev pub no_listener : Answer
-no_listener = refused no_match (negsuc 2)
+no_listener = refused refusals.NoMatch (negsuc 2)
 
 abbrev pub all_in_use : Answer
-all_in_use = refused no_free_session (negsuc 3)
+all_in_use = refused refusals.NoFreeSession (negsuc 3)
 
 -- Mr: 8, 17, 18; else the lowest free session, with the user
 abbrev pub requesting : Option ℕ → Heard → List Session → Outcome Answer (List Session)
@@ -173,12 +175,12 @@ requesting (some l) h xs =
     opening (requested l) all_in_use h.id (WithUser (record { start = h.time; timeout = h.timeout })) xs
 
 abbrev pub arriving : Kind → Option ℕ → Heard → List Session → Outcome Answer (List Session)
-arriving mn l h xs = notifying l xs
-arriving mr l h xs = requesting l h xs
-arriving mp l h xs = taking waits_for_reply ended h xs
-arriving mq l h xs = taking waits_for_reply (owing h) h xs
-arriving mc l h xs = taking waits_for_confirm ended h xs
-arriving me l h xs = taking waits_for_reply ended h xs
+arriving Mn l h xs = notifying l xs
+arriving Mr l h xs = requesting l h xs
+arriving Mp l h xs = taking waits_for_reply ended h xs
+arriving Mq l h xs = taking waits_for_reply (owing h) h xs
+arriving Mc l h xs = taking waits_for_confirm ended h xs
+arriving Me l h xs = taking waits_for_reply ended h xs
 
 -- the lowest matching listener
 abbrev pub hearing : Heard → List Listener → Option ℕ
@@ -193,18 +195,22 @@ arriving_at (passed h) t =
 unfoldable pub step : Call → Tables → Outcome Answer Tables
 step (listen com_id senders u) t =
     with_listeners t.sessions
-    (grant (earlier (first_of (listen_checks com_id senders u t.listeners))) (lowest (λ l. not l.used) t.listeners) (refused_plain no_free_slot) listening
+    (grant (earlier (first_of (listen_checks com_id senders u t.listeners))) (lowest (λ l. not l.used) t.listeners)
+    (refused_plain refusals.NoFreeSlot) listening
     (new_listener com_id senders u) t.listeners)
 step (unlisten k) t = with_listeners t.sessions (at_slot free_listener unlistened k t.listeners)
 step (calling id timeout time) t =
     with_sessions t.listeners
-    (opening opened (refused_plain no_free_session) id (WaitingForReply (record { start = time; timeout = timeout })) t.sessions)
+    (opening opened (refused_plain refusals.NoFreeSession) id
+    (WaitingForReply (record { start = time; timeout = timeout })) t.sessions)
 step (telegram a d) t = arriving_at (judged a d) t
 step (reply k type timeout time) t =
     cond (is_reply type)
-    (with_sessions t.listeners (at_slot free_session (at_session is_with_user replied (answered type timeout time)) k t.sessions))
-    (record { answer = refused_plain msg_type; after = t })
-step (confirm k) t = with_sessions t.listeners (at_slot free_session (at_session owes_confirm confirmed ended) k t.sessions)
+    (with_sessions t.listeners
+    (at_slot free_session (at_session is_with_user replied (answered type timeout time)) k t.sessions))
+    (record { answer = refused_plain refusals.MsgType; after = t })
+step (confirm k) t =
+    with_sessions t.listeners (at_slot free_session (at_session owes_confirm confirmed ended) k t.sessions)
 step (time_check time) t =
     with_sessions t.listeners
     (record { answer = codes (map (λ x. code_of time x.state) t.sessions); after = map (expired time) t.sessions })

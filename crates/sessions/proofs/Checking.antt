@@ -12,6 +12,8 @@ use lib.Seq.{set-get_or}
 use Rattle.session.specs.Session.{free_session, is_up, expired, code_of}
 use Rattle.session.specs.declared.Listener.{Listener}
 use Rattle.session.specs.declared.Session.{Session}
+use Rattle.session.specs.declared.SessionState.{SessionState}
+use Rattle.session.specs.declared.SessionState.TheVariants.{Free, WaitingForReply, OwingConfirm, WithUser, WaitingForConfirm}
 use Rattle.session_table.specs.Table as table
 use Rattle.session_table.specs.Table.{Tables}
 use Rattle.packed.specs.Packed.{tables_of}
@@ -22,11 +24,20 @@ use Rattle.sessions.specs.Expire.{Expires}
 use Rattle.sessions.proofs.Filled.{filled, filled_more, filled_next, filled-all}
 
 module _ (time k : ℕ) (o : List ℕ) where
-  pub expires-up : (o' : List ℕ) (y : Session) → is_up time (get_or (tables_of o).sessions k free_session).state ≡ true → y ≡ free_session → PutsSession k y o o' → Expires time k o o'
+  pub expires-up : (o' : List ℕ) (y : Session) → is_up time (get_or (tables_of o).sessions k free_session).state ≡ true
+      → y ≡ free_session → PutsSession k y o o' → Expires time k o o'
   expires-up o' y e f p = record { writes = p.written ∙ rw (e, f) refl; means = p.means ∙ rw (e, f) refl }
 
   pub expires-not : is_up time (get_or (tables_of o).sessions k free_session).state ≡ false → Expires time k o o
   expires-not e = record { writes = rw e refl; means = rw (e, set-get_or (tables_of o).sessions k free_session) refl }
+
+-- no code without a time that is up
+pub no-code : (time : ℕ) (s : SessionState) → is_up time s ≡ false → code_of time s ≡ pos 0
+no-code time Free e = refl
+no-code time (WaitingForReply t) e = rw e refl
+no-code time (OwingConfirm t) e = rw e refl
+no-code time (WithUser t) e = rw e refl
+no-code time (WaitingForConfirm t) e = rw e refl
 
 -- below i the sessions and codes are those after the check, from i on the sessions are as they were
 pub record Turned (time : ℕ) (o₀ : List ℕ) (codes₀ : List ℤ) (o : List ℕ) (codes : List ℤ) (i : ℕ) : Type 0 where
@@ -44,25 +55,30 @@ module _ (time : ℕ) (o₀ : List ℕ) (codes₀ : List ℤ) (long : length cod
   turned_none = record { written = refl; listeners = refl; sessions = refl; coded = refl }
 
   pub turned_more : (o o' : List ℕ) (codes : List ℤ) (i : ℕ) (code : ℤ) → i < 16 → Turned time o₀ codes₀ o codes i
-      → code ≡ code_of time (get_or (tables_of o).sessions i free_session).state → Expires time i o o' → Turned time o₀ codes₀ o' (set codes i code) (i + 1)
+      → code ≡ code_of time (get_or (tables_of o).sessions i free_session).state → Expires time i o o'
+      → Turned time o₀ codes₀ o' (set codes i code) (i + 1)
   unfolding expired_in xs
   turned_more o o' codes i code h t c e =
       let n = sessions-long o₀ in
       let m : i < length xs = omega (arith, n) in
       let g : get_or (tables_of o).sessions i free_session ≡ get_or xs i free_session =
-      ap (λ (x : List Session). get_or x i free_session) t.sessions ∙ filled_next (expired time) xs xs i free_session m m in
+      ap (λ (x : List Session). get_or x i free_session) t.sessions
+      ∙ filled_next (expired time) xs xs i free_session m m in
       record {
         written = e.writes ∙ ap (expired_at time i) t.written ∙ ap (λ (j : ℕ). expired_in time j o₀) (sym (add-one i));
         listeners = ap (λ (x : Tables). x.listeners) e.means ∙ t.listeners;
         sessions =
-            ap (λ (x : Tables). x.sessions) e.means ∙ ap₂ (λ (x : List Session) (y : Session). set x i (expired time y)) t.sessions g
+            ap (λ (x : Tables). x.sessions) e.means
+            ∙ ap₂ (λ (x : List Session) (y : Session). set x i (expired time y)) t.sessions g
             ∙ filled_more (expired time) xs xs i free_session free_session m m;
         coded =
             ap₂ (λ (x : List ℤ) (y : ℤ). set x i y) t.coded (c ∙ ap (λ (x : Session). code_of time x.state) g)
-            ∙ filled_more (λ (x : Session). code_of time x.state) xs codes₀ i free_session (pos 0) m (omega (arith, long));
+            ∙ filled_more (λ (x : Session). code_of time x.state) xs codes₀ i free_session (pos 0) m
+            (omega (arith, long));
       }
 
-  pub turned-all : (o : List ℕ) (codes : List ℤ) (i : ℕ) → i ≤ 16 → 16 ≤ i → Turned time o₀ codes₀ o codes i → Checks time o₀ codes o
+  pub turned-all : (o : List ℕ) (codes : List ℤ) (i : ℕ) → i ≤ 16 → 16 ≤ i → Turned time o₀ codes₀ o codes i
+      → Checks time o₀ codes o
   unfolding xs table.step
   turned-all o codes i u v t =
       let n = sessions-long o₀ in
@@ -72,6 +88,7 @@ module _ (time : ℕ) (o₀ : List ℕ) (codes₀ : List ℤ) (long : length cod
       let d = t.coded ∙ filled-all (λ (x : Session). code_of time x.state) xs codes₀ i h (omega (arith, long)) in
       record {
         answers = ap table.codes d;
-        means = ap₂ (λ (ls : List Listener) (ys : List Session). record { listeners = ls; sessions = ys }) t.listeners s;
+        means =
+            ap₂ (λ (ls : List Listener) (ys : List Session). record { listeners = ls; sessions = ys }) t.listeners s;
         leaves = t.written ∙ ap (λ (k : ℕ). expired_in time k o₀) j;
       }

@@ -18,16 +18,19 @@ module _ {A B : Type 0} (f : A → B) (l : List A) (e : List B) where
     length-filled : i < length l → length (map f (take i l)) ≡ i
     length-filled h = length-map (take i l) f ∙ length-take-le i l (le_of_lt h)
 
-    pub filled_more : (d : A) (d' : B) → i < length l → i < length e → set (filled i) i (f (get_or l i d)) ≡ filled (i + 1)
+    pub filled_more : (d : A) (d' : B) → i < length l → i < length e
+        → set (filled i) i (f (get_or l i d)) ≡ filled (i + 1)
     filled_more d d' h k =
-        rw (add-one, drop-cons e i d', take-suc l i d, map_snoc) (set_at (map f (take i l)) (get_or e i d') (drop (suc i) e) (f (get_or l i d)) i (length-filled h))
+        rw (add-one, drop-cons e i d', take-suc l i d, map_snoc)
+        (set_at (map f (take i l)) (get_or e i d') (drop (suc i) e) (f (get_or l i d)) i (length-filled h))
       where
         map_snoc : (ys : List A) (x : A) (r : List B) → map f (ys ++ (x ∷ [])) ++ r ≡ map f ys ++ (f x ∷ r)
         map_snoc [] x r = refl
         map_snoc (y ∷ ys) x r = ap (λ (z : List B). f y ∷ z) (map_snoc ys x r)
 
     pub filled_next : (d : B) → i < length l → i < length e → get_or (filled i) i d ≡ get_or e i d
-    filled_next d h k = rw (drop-cons e i d) (get_or_at (map f (take i l)) (get_or e i d) (drop (suc i) e) d i (length-filled h))
+    filled_next d h k =
+        rw (drop-cons e i d) (get_or_at (map f (take i l)) (get_or e i d) (drop (suc i) e) d i (length-filled h))
 
     pub filled-all : length l ≤ i → length e ≤ i → filled i ≡ map f l
     filled-all h k = rw (take_all, drop_of_length-le e k) (append-nil (map f l))

@@ -2,7 +2,7 @@
 #![tactic(auto)]
 
 ghost use Rattle.std.specs.Prelude.{◌≡◌};
-ghost use Rattle.statistics.specs.Statistics.{next, counted, added, no_statistics};
+ghost use Rattle.statistics.specs.Statistics.{counted, added, no_statistics};
 
 use telegram::Family;
 
@@ -22,65 +22,41 @@ pub struct Statistics {
     pub md: Counters,
 }
 
-fn one_more(n: u32) -> u32
-    ensures { result ≡ next n }
-{
-    std::num::wrapping_add_u32(n, 1)
-}
-
-// One telegram more, with its outcome: 0 delivered, else the refusal number.
-pub fn count(c: Counters, outcome: u8) -> Counters
-    ensures { result ≡ counted outcome c }
-{
-    let mut d = c;
-    d.received = one_more(c.received);
-    let is_delivered = outcome == 0;
-    if is_delivered {
-        d.delivered = one_more(c.delivered);
-        return d;
-    }
-    let n = outcome as usize;
-    if n < 40 {
-        d.refused[n] = one_more(d.refused[n]);
-    }
-    d
-}
-
-// One telegram of a family more.
-pub fn add(s: Statistics, f: Family, outcome: u8) -> Statistics
-    ensures { result ≡ added f outcome s }
-{
-    let pd = s.pd;
-    let md = s.md;
-    match f {
-        Family::Pd => Statistics {
-            pd: count(pd, outcome),
-            md: md,
-        },
-        Family::Md => Statistics {
-            pd: pd,
-            md: count(md, outcome),
-        },
+impl Counters {
+    // One telegram more, with its outcome: 0 delivered, else the refusal number.
+    pub fn count(&mut self, outcome: u8)
+        ensures { self.new ≡ counted outcome self.old }
+    {
+        self.received = self.received.wrapping_add(1);
+        if outcome == 0 {
+            self.delivered = self.delivered.wrapping_add(1);
+        } else if outcome < 40 {
+            let n = outcome as usize;
+            self.refused[n] = self.refused[n].wrapping_add(1);
+        }
     }
 }
 
-// An arriving telegram, with its outcome, is added to the caller's statistics.
-pub fn record(s: &mut Statistics, f: Family, outcome: u8)
-    ensures { s.new ≡ added f outcome s.old }
-{
-    let old = *s;
-    let new = add(old, f, outcome);
-    *s = new;
-}
+impl Statistics {
+    // Nothing counted.
+    pub fn none() -> Self
+        ensures { result ≡ no_statistics }
+    {
+        let c = Counters {
+            received: 0,
+            delivered: 0,
+            refused: [0; 40],
+        };
+        Self { pd: c, md: c }
+    }
 
-// Statistics that have counted nothing.
-pub fn none() -> Statistics
-    ensures { result ≡ no_statistics }
-{
-    let c = Counters {
-        received: 0,
-        delivered: 0,
-        refused: [0u32; 40],
-    };
-    Statistics { pd: c, md: c }
+    // An arriving telegram, with its outcome, is added to its family's counters.
+    pub fn record(&mut self, f: Family, outcome: u8)
+        ensures { self.new ≡ added f outcome self.old }
+    {
+        match f {
+            Family::Pd => self.pd.count(outcome),
+            Family::Md => self.md.count(outcome),
+        }
+    }
 }

@@ -81,6 +81,10 @@ granted_record f timeout behaviour time =
 abbrev pub in_use : Subscription → Bool
 in_use r = not (r.used == 0)
 
+-- a slot in use with an equal filter
+abbrev pub record_holds : Filter → Subscription → Bool
+record_holds f r = in_use r && equal f r.filter
+
 -- a slot in use whose filter matches
 abbrev pub record_wants : Heard → Subscription → Bool
 record_wants h r = in_use r && matches r.filter h

@@ -1,60 +1,60 @@
 -- A datagram judged by checks 2 to 7: taking it apart gives the refusal of 2 to 6, its header 7.
 -- Assumes nothing.
-use Prim.Native.Nat.{ℕ, zero, suc}
-use mathlib.Core.Path.{◌≡◌, refl, sym, ◌∙◌, ap}
-use mathlib.Core.List.{List, [], ◌∷◌}
-use mathlib.Core.Bool.{Bool, true, false, cond, not, false≢true}
-use Rattle.refusal.specs.Refusal.{first_of}
-use Rattle.refusal.proofs.Order.{or_else, first_of-append}
+use Rattle.std.proofs.Common.{◌≡◌, sym, ap, ◌∙◌, ℕ, ◌+◌, ◌-◌, ◌≤◌, List, [], ◌∷◌, false, true, length, take, drop, arith}
+use Rattle.std.specs.Prelude.{Ok, Err, Result}
+use Rattle.refusal.specs.declared.Refusal.{Refusal}
+use Rattle.refusal.specs.declared.Refusal.TheVariants as why
+use Rattle.refusal.specs.Refusal.{first_of, answer}
+use Rattle.refusal.proofs.Order.{and_then, first_of-append}
 use Rattle.topography.specs.Topography.{passes}
-use Rattle.telegram.specs.Telegram.{common_of, checks}
-use Rattle.telegram.specs.declared.Common.{Common}
+use Rattle.telegram.specs.Telegram.{common_of, checks, dataset_of}
 use Rattle.telegram.specs.declared.Family.TheVariants as family
+use Rattle.telegram.proofs.Reading.{whole}
 use Rattle.arrival.specs.Arrival.{topography_check, counts_of}
-use Rattle.pd.specs.Pd.{take_pd, refusal_of}
-use Rattle.pd.specs.declared.PdHeader.{PdHeader}
-use Rattle.pd.specs.declared.PdTaken.{PdTaken}
-use Rattle.pd.specs.declared.PdTaken.TheVariants as taken
-use Rattle.pd.specs.declared.PdTaken.TheVariants.{Header}
-use Rattle.subscription_table.specs.Slot.{pd_checks}
 use Rattle.arrival.specs.declared.Arrival.{Arrival}
+use Rattle.pd.specs.Pd.{header_of, take_pd}
+use Rattle.pd.specs.declared.PdHeader.{PdHeader}
+use Rattle.subscription_table.specs.Slot.{refusal, passed, judged_by, judged, heard_of}
 
--- 0 where the counters pass, else 7
-abbrev pub weighed : Bool → ℕ
-weighed true = 0
-weighed false = 7
+module _ {G : Type 0} where
+  shut : (v : Result (Unit {0}) Refusal) (g : G) (r : Refusal) → answer v g ≡ Err r → v ≡ Err r
+  shut (Ok v) g r e = grind arith
+  shut (Err s) g r e = grind arith
 
-is_header : PdTaken → Bool
-is_header (Header h) = true
-is_header (taken.Refused r) = false
+  opened : (v : Result (Unit {0}) Refusal) (g x : G) → answer v g ≡ Ok x → (v ≡ Ok tt) × (g ≡ x)
+  opened (Ok v) g x e = grind arith
+  opened (Err r) g x e = grind arith
 
-common_in : Common → PdTaken → Common
-common_in c (Header h) = h.common
-common_in c (taken.Refused r) = c
+module _ (a : Arrival) (d : List ℕ) where
+  judged-is : judged a d ≡ judged_by (and_then (first_of (checks family.Pd d)) (first_of (topography_check a d ∷ []))) (heard_of a d) (dataset_of family.Pd d)
+  unfolding judged
+  judged-is = ap (λ (v : Result (Unit {0}) Refusal). judged_by v (heard_of a d) (dataset_of family.Pd d)) (first_of-append (checks family.Pd d) (topography_check a d ∷ []))
 
--- a datagram taken apart: checks 2 to 6 gave the refusal, or none of them and 7 is judged on the header
-module _ (a : Arrival) (d : List ℕ) (t : PdTaken) (e : t ≡ take_pd d) where
-  first-of : first_of (pd_checks a d) ≡ or_else (first_of (checks family.Pd d)) (first_of (topography_check a d ∷ []))
-  first-of = first_of-append (checks family.Pd d) (topography_check a d ∷ []) tt
+  -- 2 to 6
+  pub taken_refused : (r : Refusal) → take_pd d ≡ Err r → refusal r ≡ judged a d
+  taken_refused r e = sym (judged-is ∙ rw (shut (first_of (checks family.Pd d)) (header_of d) r e))
 
-  pub taken_refused : (n : ℕ) → t ≡ taken.Refused n → refusal_of t ≡ first_of (pd_checks a d)
-  unfolding is_header
-  taken_refused n g = go (first_of (checks family.Pd d)) refl
-    where
-      go : (v : ℕ) → first_of (checks family.Pd d) ≡ v → refusal_of t ≡ first_of (pd_checks a d)
-      go zero f = absurd (false≢true (sym (ap is_header (sym (rw f at e) ∙ g))))
-      go (suc v) f = ap refusal_of (rw f at e) ∙ sym (first-of ∙ rw f refl)
+  module _ (h : PdHeader) (e : take_pd d ≡ Ok h) where
+    clear : first_of (checks family.Pd d) ≡ Ok tt
+    clear = (opened (first_of (checks family.Pd d)) (header_of d) h e).0
 
-  pub taken-judged : (h : PdHeader) (p : Bool) → t ≡ Header h → p ≡ passes (counts_of h.common) a.local → weighed p ≡ first_of (pd_checks a d)
-  unfolding is_header common_in
-  taken-judged h p g s = go (first_of (checks family.Pd d)) refl
-    where
-      counts : (b : Bool) → weighed b ≡ cond (not b) 7 0
-      counts true = refl
-      counts false = refl
+    pub header-is : header_of d ≡ h
+    header-is = (opened (first_of (checks family.Pd d)) (header_of d) h e).1
 
-      go : (v : ℕ) → first_of (checks family.Pd d) ≡ v → weighed p ≡ first_of (pd_checks a d)
-      go zero f =
-          let c : h.common ≡ common_of d = ap (common_in (common_of d)) (sym g ∙ (rw f at e)) in
-          counts p ∙ rw (s, c) (sym (first-of ∙ rw f refl))
-      go (suc v) f = absurd (false≢true (ap is_header (sym (rw f at e) ∙ g)))
+    common-is : h.common ≡ common_of d
+    common-is = sym (ap (λ (x : PdHeader). x.common) header-is)
+
+    -- 7
+    pub not-local : passes (counts_of h.common) a.local ≡ false → refusal why.Topography ≡ judged a d
+    not-local n = let m = rw common-is at n in sym (judged-is ∙ rw (clear, m))
+
+    pub let_in : passes (counts_of h.common) a.local ≡ true
+        → passed (record { com_id = h.common.com_id; sender = a.sender; destination = a.destination; counter = h.common.sequence_counter; time = a.time }) (take (40 + h.common.dataset_length - 40) (drop 40 d)) ≡ judged a d
+    let_in n =
+        let m = rw common-is at n in
+        let l : 40 + (common_of d).dataset_length - 40 ≡ (common_of d).dataset_length = omega arith in
+        rw (common-is, l) (sym (judged-is ∙ rw (clear, m)))
+
+    -- the datagram has its dataset
+    pub has-dataset : 40 + h.common.dataset_length ≤ length d
+    has-dataset = let w = (whole family.Pd d clear).1 in rw common-is (omega (arith, w))

@@ -1,3 +1,3 @@
-pub mod Parts
 pub mod Judging
+pub mod Parts
 pub mod Showing

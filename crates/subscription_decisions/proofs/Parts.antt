@@ -27,7 +27,8 @@ both : (a b : Bool) → a && b ≡ true → a ≡ true
 both true b e = refl
 both false b e = e
 
-pub after-length : (ev : Event) (d : List ℕ) (r : Subscription) (p : List ℕ) → length p ≡ 1432 → length (part_after ev d r p) ≡ 1432
+pub after-length : (ev : Event) (d : List ℕ) (r : Subscription) (p : List ℕ) → length p ≡ 1432
+    → length (part_after ev d r p) ≡ 1432
 after-length (Clock time) d r p e = go (record_due time r) ∙ e
   where
     go : (b : Bool) → length (cond b (cond (zeroes r) (replicate (length p) 0) p) p) ≡ length p

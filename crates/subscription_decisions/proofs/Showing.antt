@@ -2,9 +2,9 @@
 -- Assumes nothing.
 use Prim.Native.Nat.{ℕ, zero, suc, ◌+◌, ◌*◌, ◌<◌, ◌≤◌}
 use native.Mathlib.Omega.{arith}
-use mathlib.Core.Path.{◌≡◌, refl, ap}
+use mathlib.Core.Path.{◌≡◌, refl}
 use mathlib.Core.List.{List, [], ◌∷◌}
-use mathlib.Core.Bool.{Bool, true, false, false≢true}
+use mathlib.Core.Bool.{Bool, true, false}
 use lib.Dec.{ltb, leb}
 use lib.ListN.{length, drop}
 use lib.Seq.{take-nil}
@@ -17,8 +17,8 @@ use Rattle.subscription_table.proofs.Lent.{fits-means}
 use Rattle.subscription_step.specs.Step.{stored_at, shown_at}
 use Rattle.subscription.specs.Record.{in_use}
 use Rattle.subscription_decisions.specs.declared.View.{View}
-use Rattle.subscription_decisions.specs.declared.Reading.{Reading}
-use Rattle.subscription_decisions.specs.declared.Reading.TheVariants.{Shows, Refused}
+use Rattle.std.specs.Prelude.{Ok, Err}
+use Rattle.refusal.specs.declared.Refusal.TheVariants as refusal
 use Rattle.subscription_decisions.specs.Read.{read_by, shown, octets_of}
 
 drop_past : (n : ℕ) (xs : List ℕ) → length xs ≤ n → drop n xs ≡ []
@@ -28,7 +28,8 @@ drop_past (suc n) [] h = refl
 drop_past (suc n) (x ∷ xs) h = drop_past n xs (omega arith)
 
 -- where sizes fit, the first octets of a part lie in the store, or there is no such part
-stored_is : (n k m : ℕ) (st : List ℕ) → fits n (length st) ≡ true → m ≤ slot_octets → stored_at k m st ≡ part m (k * slot_octets) st
+stored_is : (n k m : ℕ) (st : List ℕ) → fits n (length st) ≡ true → m ≤ slot_octets
+    → stored_at k m st ≡ part m (k * slot_octets) st
 unfolding slot_octets
 stored_is n k m st f h = go (leb (k * 1432 + m) (length st)) refl
   where
@@ -40,21 +41,14 @@ stored_is n k m st f h = go (leb (k * 1432 + m) (length st)) refl
         let past : length st ≤ k * 1432 = omega (arith, far, size, h) in
         rw (e, drop_past (k * 1432) st past, take-nil m) refl
 
-showing : Reading → Bool
-showing (Shows v) = true
-showing (Refused r) = false
-
 -- what a record shows is what reading it answers
-pub record-shows : (n k : ℕ) (r : Subscription) (set st : List ℕ) (v : View) → read_by (fits n (length st)) r ≡ Shows v → shown_at r k st set ≡ octets_of (shown k set st (read_by (fits n (length st)) r))
-unfolding showing
+pub record-shows : (n k : ℕ) (r : Subscription) (set st : List ℕ) (v : View) → read_by (fits n (length st)) r ≡ Ok v
+    → shown_at r k st set ≡ octets_of (shown k set st (read_by (fits n (length st)) r))
 record-shows n k r set st v e = go (fits n (length st)) (in_use r) (ltb slot_octets r.length) refl refl refl
   where
-    go : (b u l : Bool) → fits n (length st) ≡ b → in_use r ≡ u → ltb slot_octets r.length ≡ l → shown_at r k st set ≡ octets_of (shown k set st (read_by (fits n (length st)) r))
-    go false u l f g h = absurd (false≢true (ap showing (rw f at e)))
-    go true false l f g h = absurd (false≢true (ap showing (rw (f, g) at e)))
-    go true true true f g h = absurd (false≢true (ap showing (rw (f, g, h) at e)))
+    go : (b u l : Bool) → fits n (length st) ≡ b → in_use r ≡ u → ltb slot_octets r.length ≡ l
+        → shown_at r k st set ≡ octets_of (shown k set st (read_by (fits n (length st)) r))
+    go false u l f g h = let z : Err refusal.Sizes ≡ Ok v = rw f at e in grind arith
+    go true false l f g h = let z : Err refusal.NoSlot ≡ Ok v = rw (f, g) at e in grind arith
+    go true true true f g h = let z : Err refusal.Sizes ≡ Ok v = rw (f, g, h) at e in grind arith
     go true true false f g h = rw (stored_is n k r.length st f (ltb-false slot_octets r.length h), f, g, h) refl
-
--- a refusal shows none
-pub refused-shows : (k : ℕ) (set st : List ℕ) (q : Reading) (x : ℕ) → q ≡ Refused x → [] ≡ octets_of (shown k set st q)
-refused-shows k set st q x e = rw e refl

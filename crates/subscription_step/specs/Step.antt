@@ -5,7 +5,6 @@ use Rattle.subscription_step.specs.declared.Event.{Event}
 use Rattle.subscription_step.specs.declared.Event.TheVariants.{Telegram, Clock}
 use Rattle.subscription.specs.declared.Subscription.{Subscription}
 use Rattle.subscription_step.specs.declared.Tally.{Tally}
-use Rattle.subscription_step.specs.declared.Stepped.{Stepped}
 use Rattle.subscription.specs.Record.{record_wants, record_takes, record_taken, record_due, record_marked, zeroes, substitutes}
 
 -- a telegram reaches the slot's filter; the clock reaches none
@@ -48,13 +47,16 @@ one false = 0
 abbrev pub tallied : Event → ℕ → Subscription → Tally → Tally
 tallied ev n r t = record { matched = t.matched + one (reaches ev r); changed = t.changed + one (changes ev n r) }
 
-abbrev pub step_of : Event → ℕ → Subscription → Tally → Stepped
-step_of ev n r t = record { slot = record_after ev n r; tally = tallied ev n r t }
+-- a step's record, tally and part of the store
+pub record Steps (ev : Event) (dataset : List ℕ) (r : Subscription) (t : Tally) (octets : List ℕ)
+    (r' : Subscription) (t' : Tally) (octets' : List ℕ) : Type 0 where
+  pub record-after : r' ≡ record_after ev (length dataset) r
+  pub tally-after : t' ≡ tallied ev (length dataset) r t
+  pub part-after : octets' ≡ part_after ev dataset r octets
 
--- a step's answer, and the part it leaves
-pub record Steps (ev : Event) (dataset : List ℕ) (r : Subscription) (t : Tally) (octets : List ℕ) (s : Stepped) (after : List ℕ) : Type 0 where
-  pub answers : s ≡ step_of ev (length dataset) r t
-  pub leaves : after ≡ part_after ev dataset r octets
+-- before the first slot nothing is counted
+abbrev pub no_tally : Tally
+no_tally = record { matched = 0; changed = 0 }
 
 -- both counts can still grow by n
 pub record Room (n : ℕ) (t : Tally) : Type 0 where

@@ -1,39 +1,90 @@
-// One slot at an event, by value: its record, its part of the store, and the tally carried on; and what reading shows of it.
+// One slot at an event: its record, its part of the store, and the tally carried on; and what reading shows of it.
 #![tactic(auto)]
 
-ghost use Rattle.std.specs.Prelude.{◌≡◌, ◌+◌, length};
+ghost use Rattle.std.specs.Prelude.{◌≡◌, ◌+◌, [], length};
+ghost use Rattle.subscription_step.specs.declared.Event.TheVariants.{Clock, Telegram};
 ghost use Rattle.subscription_step.specs.Step.{concerns, one, Room, Steps, stored_at, shown_at};
 
 use subscription::{Heard, Subscription};
 
-// How many slots a telegram matched, and how many took it or were marked.
-#[derive(Clone, Copy)]
+// How many slots a telegram matched, and how many took it or were marked. That both can grow by one more is asked of each
+// step (`Room`) and no invariant of the type: what is left shrinks from slot to slot.
+#[derive(Clone, Copy, Default)]
 pub struct Tally {
     pub matched: usize,
     pub changed: usize,
 }
 
-// What happens at every slot of a table: a telegram arrives, or the clock is looked at.
+// What happens at every slot of a table: a telegram arrives, or the clock is looked at. An enum and no closures: the
+// rules are written by event (`concerns`, `record_after`, `part_after`), so a sweep's contract names which one it was.
 #[derive(Clone, Copy)]
 pub enum Event {
     Telegram(Heard),
     Clock(u64),
 }
 
-// A record after an event, and the tally carried on.
-#[derive(Clone, Copy)]
-pub struct Stepped {
-    pub slot: Subscription,
-    pub tally: Tally,
+impl Tally {
+    // One more slot, maybe reached and maybe changed.
+    fn count(&mut self, reached: bool, changed: bool)
+        requires { Room 1 self.old }
+        ensures { self.new ≡
+            record { matched = self.old.matched + one reached; changed = self.old.changed + one changed } }
+    {
+        self.matched += reached as usize;
+        self.changed += changed as usize;
+    }
 }
 
-// An event concerns a slot: its filter matches the telegram, or its time is up.
-pub fn is_concerned(r: Subscription, ev: Event) -> bool
-    ensures { result ≡ concerns ev r }
+impl Event {
+    // The event concerns a slot: its filter matches the telegram, or its time is up.
+    pub fn is_concerning(&self, r: &Subscription) -> bool
+        ensures { result ≡ concerns self.now r.now }
+    {
+        match self {
+            Event::Telegram(h) => r.is_wanted(h),
+            Event::Clock(time) => r.is_due(*time),
+        }
+    }
+
+    // The event at one slot: its record and its part of the store step, and the tally is carried on.
+    pub fn step(&self, dataset: &[u8], r: &mut Subscription, part: &mut [u8], t: &mut Tally)
+        requires room { Room 1 t.old }
+        requires part_len { length part.old ≡ 1432 }
+        ensures { Steps self.now dataset.now r.old t.old part.old r.new t.new part.new }
+    {
+        match self {
+            Event::Telegram(h) => hear(h, dataset, r, part, t),
+            Event::Clock(time) => look(*time, r, part, t),
+        }
+    }
+}
+
+// A telegram at one slot: freshness is known before an octet is copied.
+fn hear(h: &Heard, dataset: &[u8], r: &mut Subscription, part: &mut [u8], t: &mut Tally)
+    requires room { Room 1 t.old }
+    requires part_len { length part.old ≡ 1432 }
+    ensures { Steps (Telegram h.now) dataset.now r.old t.old part.old r.new t.new part.new }
 {
-    match ev {
-        Event::Telegram(h) => subscription::is_wanted(r, h),
-        Event::Clock(time) => subscription::is_due(r, time),
+    let is_taken = dataset.len() <= 1432 && r.is_taken(h);
+    t.count(r.is_wanted(h), is_taken);
+    if is_taken {
+        part[..dataset.len()].copy_from_slice(dataset);
+        r.take(h, dataset.len() as u32);
+    }
+}
+
+// The clock at one slot.
+fn look(time: u64, r: &mut Subscription, part: &mut [u8], t: &mut Tally)
+    requires { Room 1 t.old }
+    ensures { Steps (Clock time) [] r.old t.old part.old r.new t.new part.new }
+{
+    let is_due = r.is_due(time);
+    t.count(false, is_due);
+    if is_due {
+        if r.behaviour == 0 {
+            part.fill(0);
+        }
+        r.mark();
     }
 }
 
@@ -42,97 +93,19 @@ fn stored(store: &[u8], k: usize, n: u32) -> &[u8]
     ensures { result.now ≡ stored_at k n store.now }
 {
     if store.len() / 1432 < k {
-        return &store[..0];
+        return &[];
     }
     let from = k * 1432;
-    let m = n as usize;
-    if store.len() - from < m {
-        return &store[..0];
-    }
-    let to = from + m;
-    &store[from..to]
+    store.get(from..from + n as usize).unwrap_or(&[])
 }
 
 // What reading slot k shows: the substitute set whole, or the first stored-length octets of its part.
-pub fn show<'a>(r: Subscription, k: usize, store: &'a [u8], substitute: &'a [u8]) -> &'a [u8]
-    ensures { result.now ≡ shown_at r k store.now substitute.now }
+pub fn show<'a>(r: &Subscription, k: usize, store: &'a [u8], substitute: &'a [u8]) -> &'a [u8]
+    ensures { result.now ≡ shown_at r.now k store.now substitute.now }
 {
-    if subscription::is_substituted(r) {
-        return substitute;
-    }
-    stored(store, k, r.length)
-}
-
-// The tally with one more slot that was reached, and one more that changed.
-fn count(t: Tally, reached: bool, changed: bool) -> Tally
-    requires { Room 1 t }
-    ensures { result ≡ record { matched = t.matched + one reached; changed = t.changed + one changed } }
-{
-    Tally {
-        matched: t.matched + reached as usize,
-        changed: t.changed + changed as usize,
-    }
-}
-
-// A telegram at one slot: freshness is known before an octet is copied.
-fn on_telegram(r: Subscription, t: Tally, h: Heard, part: &mut [u8], dataset: &[u8]) -> Stepped
-    requires room { Room 1 t }
-    requires part_len { length part.old ≡ 1432 }
-    ensures { Steps (Event.Telegram h) dataset.now r t part.old result part.new }
-{
-    let reached = subscription::is_wanted(r, h);
-    if 1432 < dataset.len() {
-        return Stepped {
-            slot: r,
-            tally: count(t, reached, false),
-        };
-    }
-    if subscription::is_taken(r, h) {
-        octets::copy_into(part, 0, dataset);
-        return Stepped {
-            slot: subscription::take(r, h, dataset.len() as u32),
-            tally: count(t, reached, true),
-        };
-    }
-    Stepped {
-        slot: r,
-        tally: count(t, reached, false),
-    }
-}
-
-// The clock at one slot.
-fn on_clock(r: Subscription, t: Tally, time: u64, part: &mut [u8], dataset: &[u8]) -> Stepped
-    requires { Room 1 t }
-    ensures { Steps (Event.Clock time) dataset.now r t part.old result part.new }
-{
-    if subscription::is_due(r, time) {
-        let is_cleared = r.behaviour == 0;
-        if is_cleared {
-            octets::clear(part);
-            return Stepped {
-                slot: subscription::mark(r),
-                tally: count(t, false, true),
-            };
-        }
-        return Stepped {
-            slot: subscription::mark(r),
-            tally: count(t, false, true),
-        };
-    }
-    Stepped {
-        slot: r,
-        tally: count(t, false, false),
-    }
-}
-
-// One slot at an event: its record, its part of the store, and the tally carried on.
-pub fn step(r: Subscription, t: Tally, ev: Event, part: &mut [u8], dataset: &[u8]) -> Stepped
-    requires room { Room 1 t }
-    requires part_len { length part.old ≡ 1432 }
-    ensures { Steps ev dataset.now r t part.old result part.new }
-{
-    match ev {
-        Event::Telegram(h) => on_telegram(r, t, h, part, dataset),
-        Event::Clock(time) => on_clock(r, t, time, part, dataset),
+    if r.is_substituted() {
+        substitute
+    } else {
+        stored(store, k, r.length)
     }
 }

@@ -8,6 +8,7 @@ use mathlib.Core.Option.{Option, none, some}
 use Prim.Native.Nat.{ℕ, zero, suc, ◌*◌, ◌≤◌}
 use native.Mathlib.Nat.{zero-mul, suc-mul, add_comm}
 use lib.ListN.{length, set, replicate, length-set, length-map, length-replicate, replicate-append-replicate}
+use Rattle.refusal.specs.declared.Refusal.TheVariants as refusal
 use Rattle.subscription.specs.Record.{in_use, unsound}
 use Rattle.arrival.specs.declared.Arrival.{Arrival}
 use Rattle.subscription.specs.declared.Heard.{Heard}
@@ -33,7 +34,8 @@ told-mark : (b : Bool) → changed (Rules.marked (cond b 1 0)) ≡ b
 told-mark true = refl
 told-mark false = refl
 
-takes-is : (a : Arrival) (d : List ℕ) (h : Heard) (dataset : List ℕ) → judged a d ≡ passed h dataset → (s : Slot) → takes h (cell_of s) ≡ changes (arrived a d) s
+takes-is : (a : Arrival) (d : List ℕ) (h : Heard) (dataset : List ℕ) → judged a d ≡ passed h dataset → (s : Slot)
+    → takes h (cell_of s) ≡ changes (arrived a d) s
 unfolding slots
 takes-is a d h dataset e s = rw (only-answer (telegram a d) s, e) (sym (told (wants h (cell_of s)) (takes h (cell_of s))))
 
@@ -46,15 +48,18 @@ mark-is time free = refl
 mark-is time (held q t fs) = refl
 
 -- a telegram that the filter turns away leaves the slot as it was
-deliver-is : (a : Arrival) (d : List ℕ) (h : Heard) (dataset : List ℕ) → judged a d ≡ passed h dataset → (s : Slot) → deliver h dataset (cell_of s) ≡ cell_of (cond (reached h s) (feed (arrived a d) s) s)
+deliver-is : (a : Arrival) (d : List ℕ) (h : Heard) (dataset : List ℕ) → judged a d ≡ passed h dataset → (s : Slot)
+    → deliver h dataset (cell_of s) ≡ cell_of (cond (reached h s) (feed (arrived a d) s) s)
 deliver-is a d h dataset e free = refl
 deliver-is a d h dataset e (held q time fs) = rw (← wants_is h (held q time fs)) (go (wants h (after q time fs)) refl)
   where
-    go : (b : Bool) → wants h (after q time fs) ≡ b → deliver h dataset (after q time fs) ≡ cell_of (cond b (held q time (arrived a d ∷ fs)) (held q time fs))
+    go : (b : Bool) → wants h (after q time fs) ≡ b
+        → deliver h dataset (after q time fs) ≡ cell_of (cond b (held q time (arrived a d ∷ fs)) (held q time fs))
     go true w = rw e refl
     go false w = rw w refl
 
-unsubscribed-is : (s : Slot) → unsubscribed (cell_of s) ≡ record { answer = (step (unsubscribe 0) (only s)).answer; after = free_cell }
+unsubscribed-is : (s : Slot) → unsubscribed (cell_of s)
+    ≡ record { answer = (step (unsubscribe 0) (only s)).answer; after = free_cell }
 unfolding slots at_slot
 unsubscribed-is free = rw (only-answer (unsubscribe 0) free) refl
 unsubscribed-is (held q time fs) = rw (only-answer (unsubscribe 0) (held q time fs), (kept q time fs).used) refl
@@ -71,7 +76,8 @@ read_is set s = rw (only-answer (read 0 set) s, asked_is set s) refl
 
 -- ---- call by call, at the table
 
-arriving-is : (a : Arrival) (d : List ℕ) (ss : List Slot) (j : Judged) → judged a d ≡ j → arriving j (map cell_of ss) ≡ mapped cell_of (arriving_beside a d j ss)
+arriving-is : (a : Arrival) (d : List ℕ) (ss : List Slot) (j : Judged) → judged a d ≡ j
+    → arriving j (map cell_of ss) ≡ mapped cell_of (arriving_beside a d j ss)
 arriving-is a d ss (refusal n) e = refl
 arriving-is a d ss (passed h dataset) e =
     rw (
@@ -87,7 +93,7 @@ slots-are (subscribe q time) ss =
       any-map cell_of (holds q) (granted_same q) (same-is q) ss,
       lowest-map cell_of (λ x. not (in_use x.slot)) is_free free-is ss,
     )
-    (grant-map cell_of (early (unsound q.filter) (any (granted_same q) ss)) (lowest is_free ss) (refused 13) granted (held q time []) ss)
+    (grant-map cell_of (early (unsound q.filter) (any (granted_same q) ss)) (lowest is_free ss) (refused refusal.NoFreeSlot) granted (held q time []) ss)
 slots-are (unsubscribe k) ss =
     at_slot-map cell_of free unsubscribed (λ s. record { answer = (step (unsubscribe 0) (only s)).answer; after = free }) k unsubscribed-is ss
 slots-are (telegram a d) ss = arriving-is a d ss (judged a d) refl
@@ -102,16 +108,19 @@ pub joined_is : (ss : List Slot) → joined ss ≡ lent (map cell_of ss)
 joined_is [] = refl
 joined_is (s ∷ ss) = rw (only-is s, joined_is ss, append-nil (cell_of s).octets) refl
 
-pub agrees : (c : Call) (ss : List Slot) → length ss ≤ 32 → step c (joined ss) ≡ record { answer = (beside c ss).answer; after = joined (beside c ss).after }
+pub agrees : (c : Call) (ss : List Slot) → length ss ≤ 32
+    → step c (joined ss) ≡ record { answer = (beside c ss).answer; after = joined (beside c ss).after }
 agrees c ss le = rw (joined_is ss, step-lent cell_of sized c ss le, slots-are c ss, joined_is (beside c ss).after) refl
 
-length-grant : (e : Option Answer) (k : Option ℕ) (s : Slot) (ss : List Slot) → length (grant e k (refused 13) granted s ss).after ≡ length ss
+length-grant : (e : Option Answer) (k : Option ℕ) (s : Slot) (ss : List Slot)
+    → length (grant e k (refused refusal.NoFreeSlot) granted s ss).after ≡ length ss
 unfolding grant
 length-grant (some a) k s ss = refl
 length-grant none none s ss = refl
 length-grant none (some k) s ss = length-set ss k s
 
-length-arriving : (a : Arrival) (d : List ℕ) (j : Judged) (ss : List Slot) → length (arriving_beside a d j ss).after ≡ length ss
+length-arriving : (a : Arrival) (d : List ℕ) (j : Judged) (ss : List Slot)
+    → length (arriving_beside a d j ss).after ≡ length ss
 length-arriving a d (refusal n) ss = refl
 length-arriving a d (passed h dataset) ss = length-map ss (λ s. cond (reached h s) (feed (arrived a d) s) s)
 
@@ -143,7 +152,8 @@ unfolding side_by_side
 table-is-side-by-side n octets cs = go (fits n octets) refl
   where
     go : (b : Bool) → fits n octets ≡ b
-        → trace step (λ t. t) cs (empty_table n octets) ≡ cond b (trace beside joined cs (replicate n free)) (trace refusing (λ t. t) cs (empty_table n octets))
+        → trace step (λ t. t) cs (empty_table n octets)
+        ≡ cond b (trace beside joined cs (replicate n free)) (trace refusing (λ t. t) cs (empty_table n octets))
     go true e =
         let m = fits-means n octets e in
         rw (m.1, ← joined-empty n) (same-trace step beside joined (λ ss. length ss ≤ 32) keeps agrees cs (replicate n free) (rw (length-replicate n free) m.0))

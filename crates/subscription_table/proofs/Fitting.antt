@@ -2,9 +2,11 @@
 -- Assumes nothing.
 use mathlib.Core.Path.{◌≡◌, refl}
 use mathlib.Core.List.{List, [], ◌∷◌}
-use Prim.Native.Nat.{ℕ, zero, suc, ◌≤◌}
+use Prim.Native.Nat.{ℕ, ◌≤◌}
+use Rattle.std.specs.Prelude.{Ok, Err, Result}
 use native.Mathlib.Omega.{arith}
 use lib.ListN.{length, length-take}
+use Rattle.refusal.specs.declared.Refusal.{Refusal}
 use Rattle.refusal.specs.Refusal.{first_of}
 use Rattle.refusal.proofs.Order.{passed_first}
 use Rattle.telegram.specs.Telegram.{common_of, checks, dataset_of}
@@ -15,18 +17,20 @@ use Rattle.arrival.specs.Arrival.{topography_check, arrival_checks}
 use Rattle.subscription.specs.declared.Heard.{Heard}
 use Rattle.subscription_table.specs.Slot.{refusal, passed, judged_by, judged, heard_of, slot_octets}
 
-apart : (r : ℕ) (h : Heard) (dataset : List ℕ) → refusal r ≡ passed h dataset → ⊥
+apart : (r : Refusal) (h : Heard) (dataset : List ℕ) → refusal r ≡ passed h dataset → ⊥
 apart r h dataset e = let z : ◌≡◌ {A = ℕ} 0 1 = cc in omega arith
 
-opened : (v : ℕ) (g h : Heard) (s dataset : List ℕ) → judged_by v g s ≡ passed h dataset → (v ≡ 0) × (s ≡ dataset)
-opened zero g h s dataset e = (refl, cc)
-opened (suc v) g h s dataset e = absurd (apart (suc v) h dataset e)
+opened : (v : Result (Unit {0}) Refusal) (g h : Heard) (s dataset : List ℕ) → judged_by v g s ≡ passed h dataset
+    → (v ≡ Ok tt) × (s ≡ dataset)
+opened (Ok v) g h s dataset e = (refl, cc)
+opened (Err r) g h s dataset e = absurd (apart r h dataset e)
 
-pub judged-fits : (a : Arrival) (d : List ℕ) (h : Heard) (dataset : List ℕ) → judged a d ≡ passed h dataset → length dataset ≤ slot_octets
+pub judged-fits : (a : Arrival) (d : List ℕ) (h : Heard) (dataset : List ℕ) → judged a d ≡ passed h dataset
+    → length dataset ≤ slot_octets
 unfolding judged slot_octets
 judged-fits a d h dataset e =
     let o = opened (first_of (arrival_checks family.Pd a d)) (heard_of a d) h (dataset_of family.Pd d) dataset e in
-    let s = sound family.Pd d (whole family.Pd d (passed_first (checks family.Pd d) (topography_check a d ∷ []) tt o.0)).0 in
+    let s = sound family.Pd d (whole family.Pd d (passed_first (checks family.Pd d) (topography_check a d ∷ []) o.0)).0 in
     let n : ℕ = (common_of d).dataset_length in
     let l : length (dataset_of family.Pd d) ≤ n = simp length-take (omega arith) in
     rw (← o.1) (omega (arith, s.limit))

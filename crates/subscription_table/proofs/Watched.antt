@@ -9,6 +9,7 @@ use native.Mathlib.Omega.{arith}
 use lib.Dec.{eqb}
 use lib.ListN.{length, get_or, set, replicate, length-replicate, get_or-map}
 use lib.Seq.{get_or-set_same, get_or-set_other}
+use Rattle.refusal.specs.declared.Refusal.TheVariants as refusal
 use Rattle.subscription.specs.Record.{matches, unsound}
 use Rattle.subscription.specs.declared.Heard.{Heard}
 use Rattle.tables.specs.Lists.{any, count, lowest, grant, at_slot}
@@ -36,7 +37,8 @@ gave1-delivered false zero = refl
 gave1-delivered b (suc n) = refl
 
 -- freeing leaves a free slot, and is answered so
-freeing : (q : Request) (time : ℕ) (fs : List Fed) → step (unsubscribe 0) (alone q time fs) ≡ record { answer = freed; after = only free }
+freeing : (q : Request) (time : ℕ) (fs : List Fed)
+    → step (unsubscribe 0) (alone q time fs) ≡ record { answer = freed; after = only free }
 unfolding slots at_slot
 freeing q time fs = rw (only-is (held q time fs), step-one (unsubscribe 0) (held q time fs), (kept q time fs).used, only-is free) refl
 
@@ -70,7 +72,7 @@ module _ (k : ℕ) (q : Request) (time : ℕ) (ss : List Slot) (fs : List Fed) (
   after : (c : Call) → After c
   unfolding beside at_slot alone
   after (subscribe r t) =
-      stays (subscribe r t) (grant-leaves is_free free (early (unsound r.filter) (any (granted_same r) ss)) (refused 13) granted (held r t []) ss k (rw is refl) (lowest is_free ss) refl)
+      stays (subscribe r t) (grant-leaves is_free free (early (unsound r.filter) (any (granted_same r) ss)) (refused refusal.NoFreeSlot) granted (held r t []) ss k (rw is refl) (lowest is_free ss) refl)
       (unless-none (gave1 (beside (subscribe r t) ss).answer))
   after (unsubscribe j) = go (eqb j k) refl
     where
@@ -82,7 +84,8 @@ module _ (k : ℕ) (q : Request) (time : ℕ) (ss : List Slot) (fs : List Fed) (
       go false e = stays (unsubscribe j) (get_or-set_other ss j k free free (eqb-other j k e)) (rw e (unless-none (gave1 (beside (unsubscribe j) ss).answer)))
   after (telegram a d) = go (judged a d) refl
     where
-      to : (h : Heard) (dataset : List ℕ) → judged a d ≡ passed h dataset → (b : Bool) → matches q.filter h ≡ b → After (telegram a d)
+      to : (h : Heard) (dataset : List ℕ) → judged a d ≡ passed h dataset → (b : Bool) → matches q.filter h ≡ b
+          → After (telegram a d)
       to h dataset e true m =
           goes (telegram a d) (arrived a d ∷ fs) (rw e (get_or-map (λ s. cond (reached h s) (feed (arrived a d) s) s) ss k free ∙ rw (is, m) refl))
           (rw (e, gave1-delivered (any (reached h) ss) (count (changes (arrived a d)) ss), m) refl)
@@ -96,7 +99,8 @@ module _ (k : ℕ) (q : Request) (time : ℕ) (ss : List Slot) (fs : List Fed) (
   after (time_check t) = goes (time_check t) (checked t ∷ fs) (get_or-map (feed (checked t)) ss k free ∙ ap (feed (checked t)) is) refl
   after (read j sub) = go (eqb j k) refl
     where
-      asks : (one : Bool) → alone q time (asked sub ∷ fs) ≡ step_if (slot_watch k q.filter) (cond one none (some (read 0 sub))) (alone q time fs)
+      asks : (one : Bool) → alone q time (asked sub ∷ fs)
+          ≡ step_if (slot_watch k q.filter) (cond one none (some (read 0 sub))) (alone q time fs)
       asks true = asking sub q time fs
       asks false = refl
 
@@ -116,7 +120,8 @@ module _ (k : ℕ) (q : Request) (time : ℕ) (ss : List Slot) (fs : List Fed) (
 
   -- to a call that names a slot the answer is the slot alone's
   named : (c own : Call) (j : ℕ) → names k c ≡ eqb j k → (one b : Bool) → eqb j k ≡ b
-      → cond one none (heard k c (step own (only (get_or ss j free))).answer) ≡ answer_if (slot_watch k q.filter) c (cond one none (cond b (some own) none)) (alone q time fs)
+      → cond one none (heard k c (step own (only (get_or ss j free))).answer)
+      ≡ answer_if (slot_watch k q.filter) c (cond one none (cond b (some own) none)) (alone q time fs)
   named c own j n true b e = refl
   named c own j n false true e = rw (eqb_same j k e, is) refl
   named c own j n false false e = rw (n, e) refl
@@ -140,7 +145,8 @@ pub record Held (k : ℕ) (q : Request) (time : ℕ) (t : Table) : Type 0 where
   is : get_or ss k free ≡ held q time fs
   table : t ≡ joined ss
 
-pub follows : (k : ℕ) (q : Request) (time : ℕ) (c : Call) (t : Table) → Held k q time t → Follows (slot_watch k q.filter) (Held k q time) c t
+pub follows : (k : ℕ) (q : Request) (time : ℕ) (c : Call) (t : Table) → Held k q time t
+    → Follows (slot_watch k q.filter) (Held k q time) c t
 follows k q time c t h = rw h.table
     (record {
       slot = rw (agrees c h.ss h.fits, slot-joined (beside c h.ss).after k lt', slot-joined h.ss k h.lt, h.is) then.slot;
@@ -157,15 +163,16 @@ follows k q time c t h = rw h.table
     then : After k q time h.ss h.fs h.lt h.is c
     then = after k q time h.ss h.fs h.lt h.is c
 
-    on : (unused (only (get_or ss' k free)) ≡ true) ⊎ ((fs' : List Fed) × (get_or ss' k free ≡ held q time fs')) → (unused (slot_at k (joined ss')) ≡ true) ⊎ Held k q time (joined ss')
+    on : (unused (only (get_or ss' k free)) ≡ true) ⊎ ((fs' : List Fed) × (get_or ss' k free ≡ held q time fs'))
+        → (unused (slot_at k (joined ss')) ≡ true) ⊎ Held k q time (joined ss')
     on (inl e) = inl (ap unused (slot-joined ss' k lt') ∙ e)
     on (inr p) = inr (record { ss = ss'; fs = p.0; fits = keeps c h.ss h.fits; lt = lt'; is = p.1; table = refl })
 
 -- ---- from the grant on
 
 grant-means : (bad same : Bool) (o : Option ℕ) (k : ℕ) (new : Slot) (ss : List Slot)
-    → (grant (early bad same) o (refused 13) granted new ss).answer ≡ granted k
-    → (bad ≡ false) × (o ≡ some k) × ((grant (early bad same) o (refused 13) granted new ss).after ≡ set ss k new)
+    → (grant (early bad same) o (refused refusal.NoFreeSlot) granted new ss).answer ≡ granted k
+    → (bad ≡ false) × (o ≡ some k) × ((grant (early bad same) o (refused refusal.NoFreeSlot) granted new ss).after ≡ set ss k new)
 unfolding grant
 grant-means true same o k new ss e = let z : ◌≡◌ {A = ℕ} 0 1 = cc in absurd (omega arith)
 grant-means false true o k new ss e = let z : ◌≡◌ {A = ℕ} 0 1 = cc in absurd (omega arith)
@@ -173,7 +180,8 @@ grant-means false false none k new ss e = let z : ◌≡◌ {A = ℕ} 0 1 = cc i
 grant-means false false (some j) k new ss e = let z : j ≡ k = cc in (refl, ap some z, ap (λ i. set ss i new) z)
 
 -- the grant, as a table's only slot
-alone-granted : (q : Request) (time : ℕ) → unsound q.filter ≡ false → (step (subscribe q time) (empty_table 1 slot_octets)).after ≡ alone q time []
+alone-granted : (q : Request) (time : ℕ) → unsound q.filter ≡ false
+    → (step (subscribe q time) (empty_table 1 slot_octets)).after ≡ alone q time []
 unfolding slots grant alone
 alone-granted q time e = rw (only-is free, step-one (subscribe q time) free, e) refl
 
@@ -188,12 +196,14 @@ fits-if-granted n octets before q time k e = go (fits n octets) refl
         let r : Refused t = simp length-replicate f in
         let same : run step before t ≡ run refusing before t = same-run step refusing (λ u. u) Refused (λ c u h. h) refuses before t r in
         let r' : Refused (run refusing before t) = run-keeps step refusing (λ u. u) Refused (λ c u h. h) refuses before t r in
-        let e' : granted k ≡ refused 1 = sym e ∙ ap (λ u. (step (subscribe q time) u).answer) same ∙ ap (λ o. o.answer) (refuses (subscribe q time) (run refusing before t) r') in
+        let e' : granted k ≡ refused refusal.Sizes = sym e ∙ ap (λ u. (step (subscribe q time) u).answer) same
+        ∙ ap (λ o. o.answer) (refuses (subscribe q time) (run refusing before t) r') in
         let z : ◌≡◌ {A = ℕ} 0 1 = cc in absurd (omega arith)
 
 from-grant : (ss : List Slot) → length ss ≤ 32 → (q : Request) (time k : ℕ)
     → let t = step (subscribe q time) (joined ss) in
-    t.answer ≡ granted k → (slot_at k t.after ≡ (step (subscribe q time) (empty_table 1 slot_octets)).after) × Held k q time t.after
+    t.answer ≡ granted k → (slot_at k t.after ≡ (step (subscribe q time) (empty_table 1 slot_octets)).after)
+    × Held k q time t.after
 unfolding beside alone
 from-grant ss le q time k e =
     let c = subscribe q time in
@@ -201,7 +211,8 @@ from-grant ss le q time k e =
     let g = grant-means (unsound q.filter) (any (granted_same q) ss) (lowest is_free ss) k (held q time []) ss (rw (agrees c ss le) at e) in
     let lt : k < length ss = (lowest-is is_free free ss k g.1).0 in
     let lt' : k < length ss' = rw (length-beside c ss) lt in
-    let is : get_or ss' k free ≡ held q time [] = ap (λ l. get_or l k free) g.2 ∙ get_or-set_same ss k (held q time []) free lt in
+    let is : get_or ss' k free ≡ held q time [] = ap (λ l. get_or l k free) g.2
+    ∙ get_or-set_same ss k (held q time []) free lt in
     let slot : slot_at k (joined ss') ≡ alone q time [] = slot-joined ss' k lt' ∙ ap only is in
     let h : Held k q time (joined ss') = record { ss = ss'; fs = []; fits = keeps c ss le; lt = lt'; is = is; table = refl } in
     rw (agrees c ss le, alone-granted q time g.0) (slot, h)
@@ -209,7 +220,8 @@ from-grant ss le q time k e =
 -- a grant after any list of calls: the slot is the slot alone's, and is held
 pub granted-held : (n octets : ℕ) (before : List Call) (q : Request) (time k : ℕ)
     → let grant = step (subscribe q time) (run step before (empty_table n octets)) in
-    grant.answer ≡ granted k → (slot_at k grant.after ≡ (step (subscribe q time) (empty_table 1 slot_octets)).after) × Held k q time grant.after
+    grant.answer ≡ granted k → (slot_at k grant.after ≡ (step (subscribe q time) (empty_table 1 slot_octets)).after)
+    × Held k q time grant.after
 granted-held n octets before q time k e =
     let m = fits-means n octets (fits-if-granted n octets before q time k e) in
     let start : List Slot = replicate n free in

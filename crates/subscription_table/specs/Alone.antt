@@ -2,6 +2,7 @@
 use Rattle.subscription.specs.Record.{matches, equal, unsound}
 use Rattle.arrival.specs.declared.Arrival.{Arrival}
 use Rattle.subscription.specs.declared.Heard.{Heard}
+use Rattle.refusal.specs.declared.Refusal.TheVariants as refusal
 use Rattle.std.specs.Prelude.{ℕ, zero, suc, Bool, true, false, cond, List, [], ◌∷◌, ◌++◌, map, replicate}
 use Rattle.tables.specs.Lists.{count, any, lowest, grant, at_slot}
 use Rattle.tables.specs.Trace.{Outcome, trace}
@@ -65,19 +66,19 @@ changed (delivered n) = true
 changed (marked zero) = false
 changed (marked (suc n)) = true
 changed (shows s o) = false
-changed (refused n) = false
+changed (refused r) = false
 
 abbrev pub changes : Fed → Slot → Bool
 changes f s = changed (step (own f) (only s)).answer
 
 abbrev pub arriving_beside : Arrival → List ℕ → Judged → List Slot → Outcome Answer (List Slot)
-arriving_beside a d (refusal n) ss = record { answer = refused n; after = ss }
+arriving_beside a d (refusal r) ss = record { answer = refused r; after = ss }
 arriving_beside a d (passed h dataset) ss =
     record { answer = delivered_to (any (reached h) ss) (count (changes (arrived a d)) ss); after = map (λ s. cond (reached h s) (feed (arrived a d) s) s) ss }
 
 -- grants and numbers by the rules over the filters granted and not freed; all else by the slots alone
 unfoldable pub beside : Call → List Slot → Outcome Answer (List Slot)
-beside (subscribe q time) ss = grant (early (unsound q.filter) (any (granted_same q) ss)) (lowest is_free ss) (refused 13) granted (held q time []) ss
+beside (subscribe q time) ss = grant (early (unsound q.filter) (any (granted_same q) ss)) (lowest is_free ss) (refused refusal.NoFreeSlot) granted (held q time []) ss
 beside (unsubscribe k) ss = at_slot free (λ s. record { answer = (step (unsubscribe 0) (only s)).answer; after = free }) k ss
 beside (telegram a d) ss = arriving_beside a d (judged a d) ss
 beside (time_check time) ss = record { answer = marked (count (changes (checked time)) ss); after = map (feed (checked time)) ss }
@@ -85,7 +86,7 @@ beside (read k set) ss = at_slot free (λ s. record { answer = (step (read 0 set
 
 -- where the table is refused, so is every call
 abbrev pub refusing : Call → Table → Outcome Answer Table
-refusing c t = record { answer = refused 1; after = t }
+refusing c t = record { answer = refused refusal.Sizes; after = t }
 
 -- the answers, records and store after each call that the slots alone give, side by side
 unfoldable pub side_by_side : ℕ → ℕ → List Call → List (Outcome Answer Table)

@@ -1,6 +1,7 @@
 -- One slot: a subscription's record and its 1432 octets of the store. Document 01, Subscriptions.
-use Rattle.std.specs.Prelude.{ℕ, zero, suc, Bool, cond, List, ◌++◌, ltb, length, take, drop, replicate}
+use Rattle.std.specs.Prelude.{ℕ, Bool, cond, List, ◌++◌, ltb, length, take, drop, replicate, Ok, Err, Result}
 use Rattle.refusal.specs.Refusal.{Check, first_of}
+use Rattle.refusal.specs.declared.Refusal.{Refusal}
 use Rattle.arrival.specs.declared.Arrival.{Arrival}
 use Rattle.arrival.specs.Arrival.{arrival_checks}
 use Rattle.telegram.specs.Telegram.{common_of, dataset_of}
@@ -29,12 +30,12 @@ heard_of a d =
 
 -- a refusal, or what slots see of the telegram and its dataset
 pub data Judged : Type 0 where
-  refusal : ℕ → Judged
+  refusal : Refusal → Judged
   passed : Heard → List ℕ → Judged
 
-abbrev pub judged_by : ℕ → Heard → List ℕ → Judged
-judged_by zero h s = passed h s
-judged_by (suc r) h s = refusal (suc r)
+abbrev pub judged_by : Result (Unit {0}) Refusal → Heard → List ℕ → Judged
+judged_by (Ok v) h s = passed h s
+judged_by (Err r) h s = refusal r
 
 unfoldable pub judged : Arrival → List ℕ → Judged
 judged a d = judged_by (first_of (pd_checks a d)) (heard_of a d) (dataset_of family.Pd d)

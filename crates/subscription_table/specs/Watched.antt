@@ -3,6 +3,8 @@ use Rattle.subscription.specs.Record.{in_use, matches}
 use Rattle.arrival.specs.declared.Arrival.{Arrival}
 use Rattle.std.specs.Prelude.{ℕ, ◌*◌, Bool, false, cond, not, List, [], ◌∷◌, eqb, take, drop, get_or}
 use Rattle.std.proofs.Math.Option.{Option, none, some}
+use Rattle.refusal.specs.Refusal.{number}
+use Rattle.refusal.specs.declared.Refusal.TheVariants as refusal
 use Rattle.tables.specs.Watch.{Watch}
 use Rattle.subscription_table.specs.Slot.{Judged, refusal, passed, judged, slot_octets, free_cell}
 use Rattle.subscription_table.specs.Table.{Call, subscribe, unsubscribe, telegram, time_check, read, Answer, granted, freed, delivered, marked, shows, refused, Table, step}
@@ -21,7 +23,7 @@ gave1 freed = false
 gave1 (delivered n) = false
 gave1 (marked n) = false
 gave1 (shows s o) = false
-gave1 (refused n) = eqb n 1
+gave1 (refused r) = eqb (number r) (number refusal.Sizes)
 
 abbrev pub names : ℕ → Call → Bool
 names k (subscribe q time) = false
@@ -31,7 +33,7 @@ names k (time_check time) = false
 names k (read j set) = eqb j k
 
 abbrev pub fed_telegram : Filter → Arrival → List ℕ → Judged → Option Call
-fed_telegram f a d (refusal n) = none
+fed_telegram f a d (refusal r) = none
 fed_telegram f a d (passed h dataset) = cond (matches f h) (some (telegram a d)) none
 
 -- a call as slot k, granted with the filter f, is fed it, k being the only slot; nothing where it is struck out

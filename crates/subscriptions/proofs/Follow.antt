@@ -3,7 +3,7 @@
 use Prim.Native.Nat.{ℕ, suc, ◌+◌, ◌*◌, ◌≤◌}
 use native.Mathlib.Omega.{arith}
 use native.Mathlib.Nat.{zero-add, zero-mul, suc-mul}
-use mathlib.Core.Path.{◌≡◌, refl, ◌∙◌, ap}
+use mathlib.Core.Path.{◌≡◌, refl, sym, ◌∙◌, ap}
 use mathlib.Core.List.{List, [], ◌∷◌, ◌++◌, map}
 use mathlib.Core.Bool.{Bool, true, false, cond, ◌||◌}
 use lib.Dec.{ltb}
@@ -13,8 +13,10 @@ use borrow.Author.Tests.{le-leb, lt-ltb}
 use Rattle.tables.specs.Lists.{count, any}
 use Rattle.subscription.specs.Record.{record_wants, record_takes, record_due}
 use Rattle.subscription_table.specs.Slot.{Cell, judged, passed, slot_octets, deliver, mark}
-use Rattle.subscription_step.specs.Step.{record_after, part_after, changes, reaches, one, tallied}
+use Rattle.subscription_step.specs.Step.{record_after, part_after, changes, reaches, one, no_tally, tallied}
+use Rattle.subscription_table.specs.Slot as slot
 use Rattle.subscription_table.specs.Table as table
+use Rattle.subscription_table.proofs.Flat.{records-parts, store-parts}
 use Rattle.subscription_table.specs.Table.{Call, telegram, time_check, delivered_to, parts, records, store, slots, fits, step}
 use Rattle.arrival.specs.declared.Arrival.{Arrival}
 use Rattle.subscription_step.specs.declared.Event.{Event}
@@ -26,28 +28,30 @@ use Rattle.subscription_table.proofs.Fitting.{judged-fits}
 use Rattle.subscription_table.proofs.Lent.{fits-means}
 use Rattle.subscription_table.proofs.Stepping.{telegram-steps, clock-steps}
 use Rattle.subscriptions.specs.Sweep.{store_after, tally_after, Sweeps}
-use Rattle.subscription_decisions.specs.Sweep.{no_tally}
 use Rattle.subscriptions.specs.Calls.{Follows}
-use Rattle.subscription_decisions.specs.Calls.{meaning, marked_by}
-use Rattle.subscription_decisions.specs.declared.Swept.{Swept}
-use Rattle.subscription_decisions.specs.declared.Swept.TheVariants.{Done, Refused}
+use Rattle.std.specs.Prelude.{Ok, Err, Result}
+use Rattle.refusal.specs.declared.Refusal.{Refusal}
+use Rattle.refusal.specs.declared.Refusal.TheVariants as refusal
 
 -- ---- the slots after an event that steps each of them by g
 
 module _ (ev : Event) (d : List ℕ) (g : Cell → Cell)
     (steps : (x : Cell) → length x.octets ≡ slot_octets → g x ≡ record { slot = record_after ev (length d) x.slot; octets = part_after ev d x.slot x.octets }) where
   -- the first slot's part is whole, and the others' store follows it
-  long : (st : List ℕ) (n : ℕ) → length st ≡ suc n * slot_octets → (length (take slot_octets st) ≡ slot_octets) × (length (drop slot_octets st) ≡ n * slot_octets)
+  long : (st : List ℕ) (n : ℕ) → length st ≡ suc n * slot_octets
+      → (length (take slot_octets st) ≡ slot_octets) × (length (drop slot_octets st) ≡ n * slot_octets)
   long st n e = (length-take-le slot_octets st (omega (arith, e, suc-mul n slot_octets)), length-drop slot_octets st ∙ omega (arith, e, suc-mul n slot_octets))
 
-  pub records-swept : (rs : List Subscription) (st : List ℕ) → length st ≡ length rs * slot_octets → map (record_after ev (length d)) rs ≡ records (map g (parts rs st))
+  pub records-swept : (rs : List Subscription) (st : List ℕ) → length st ≡ length rs * slot_octets
+      → map (record_after ev (length d)) rs ≡ records (map g (parts rs st))
   unfolding parts
   records-swept [] st e = refl
   records-swept (r ∷ rs) st e =
       rw (steps (record { slot = r; octets = take slot_octets st }) (long st (length rs) e).0)
       (ap (λ l. record_after ev (length d) r ∷ l) (records-swept rs (drop slot_octets st) (long st (length rs) e).1))
 
-  pub store-swept : (rs : List Subscription) (st : List ℕ) → length st ≡ length rs * slot_octets → store_after ev d rs st ≡ store (map g (parts rs st))
+  pub store-swept : (rs : List Subscription) (st : List ℕ) → length st ≡ length rs * slot_octets
+      → store_after ev d rs st ≡ store (map g (parts rs st))
   unfolding parts
   store-swept [] [] e = refl
   store-swept [] (o ∷ st) e = let z : suc (length st) ≡ 0 = e ∙ zero-mul slot_octets in absurd (omega arith)
@@ -63,7 +67,8 @@ counted false m n = omega arith
 
 pub tally-counts : (ev : Event) (n : ℕ) (rs : List Subscription) (t : Tally)
     → tally_after ev n rs t ≡ record { matched = t.matched + count (reaches ev) rs; changed = t.changed + count (changes ev n) rs }
-tally-counts ev n [] t = let a : t.matched + 0 ≡ t.matched = omega arith in let b : t.changed + 0 ≡ t.changed = omega arith in rw (a, b) refl
+tally-counts ev n [] t = let a : t.matched + 0 ≡ t.matched = omega arith in let b : t.changed + 0
+    ≡ t.changed = omega arith in rw (a, b) refl
 tally-counts ev n (r ∷ rs) t =
     rw (
       tally-counts ev n rs (tallied ev n r t),
@@ -71,8 +76,10 @@ tally-counts ev n (r ∷ rs) t =
       counted (changes ev n r) t.changed (count (changes ev n) rs),
     ) refl
 
-pub tally-is : (ev : Event) (n : ℕ) (rs : List Subscription) → tally_after ev n rs no_tally ≡ record { matched = count (reaches ev) rs; changed = count (changes ev n) rs }
-tally-is ev n rs = tally-counts ev n rs no_tally ∙ rw (zero-add (count (reaches ev) rs), zero-add (count (changes ev n) rs)) refl
+pub tally-is : (ev : Event) (n : ℕ) (rs : List Subscription)
+    → tally_after ev n rs no_tally ≡ record { matched = count (reaches ev) rs; changed = count (changes ev n) rs }
+tally-is ev n rs = tally-counts ev n rs no_tally
+    ∙ rw (zero-add (count (reaches ev) rs), zero-add (count (changes ev n) rs)) refl
 
 pub ltb-one : (n : ℕ) → ltb 0 (suc n) ≡ true
 ltb-one n = lt-ltb 0 (suc n) (omega arith)
@@ -96,21 +103,22 @@ module _ (p q : Subscription → Bool) (same : (r : Subscription) → p r ≡ q 
 -- ---- the calls
 
 -- a sweep's answer to a telegram that passed, and to the clock
-abbrev pub arrived : Swept → table.Answer
-arrived (Done t) = delivered_to (ltb 0 t.matched) t.changed
-arrived (Refused r) = table.refused r
+abbrev pub arrived : Result Tally Refusal → table.Answer
+arrived (Ok t) = delivered_to (ltb 0 t.matched) t.changed
+arrived (Err r) = table.refused r
 
-abbrev pub checked : Swept → table.Answer
-checked (Done t) = table.marked t.changed
-checked (Refused r) = table.refused r
+abbrev pub checked : Result Tally Refusal → table.Answer
+checked (Ok t) = table.marked t.changed
+checked (Err r) = table.refused r
 
 -- a dataset that a part can hold is taken where the slot takes it
 takes-is : (h : Heard) (n : ℕ) → n ≤ slot_octets → (r : Subscription) → changes (Telegram h) n r ≡ record_takes h r
 unfolding slot_octets
 takes-is h n k r = rw (le-leb n 1432 k) refl
 
-pub telegram-follows : (a : Arrival) (telegram_octets : List ℕ) (h : Heard) (d : List ℕ) (rs : List Subscription) (st : List ℕ) (s : Swept) (rs' : List Subscription) (st' : List ℕ)
-    → judged a telegram_octets ≡ passed h d → Sweeps (Telegram h) d rs st s rs' st' → Follows (telegram a telegram_octets) rs st (arrived s) rs' st'
+pub telegram-follows : (a : Arrival) (telegram_octets : List ℕ) (h : Heard) (d : List ℕ) (rs : List Subscription) (st : List ℕ) (s : Result Tally Refusal) (rs' : List Subscription) (st' : List ℕ)
+    → judged a telegram_octets ≡ passed h d → Sweeps (Telegram h) d rs st s rs' st'
+    → Follows (telegram a telegram_octets) rs st (arrived s) rs' st'
 unfolding step slots
 telegram-follows a o h d rs st s rs' st' e w =
     let f = go (fits (length rs) (length st)) refl in
@@ -121,7 +129,7 @@ telegram-follows a o h d rs st s rs' st' e w =
 
     go : (b : Bool) → fits (length rs) (length st) ≡ b
         → let x = step (telegram a o) (record { records = rs; store = st }) in
-        (arrived (cond b (Done (tally_after (Telegram h) (length d) rs no_tally)) (Refused 1)) ≡ x.answer)
+        (arrived (cond b (Ok (tally_after (Telegram h) (length d) rs no_tally)) (Err refusal.Sizes)) ≡ x.answer)
         × (cond b (map (record_after (Telegram h) (length d)) rs) rs ≡ x.after.records)
         × (cond b (store_after (Telegram h) d rs st) st ≡ x.after.store)
     go true f =
@@ -137,7 +145,19 @@ telegram-follows a o h d rs st s rs' st' e w =
         ) (refl, refl, refl)
     go false f = rw f (refl, refl, refl)
 
-pub clock-follows : (time : ℕ) (d : List ℕ) (rs : List Subscription) (st : List ℕ) (s : Swept) (rs' : List Subscription) (st' : List ℕ)
+-- 2 to 7: all stays
+pub refused-telegram-follows : (a : Arrival) (o : List ℕ) (r : Refusal) (rs : List Subscription) (st : List ℕ)
+    → fits (length rs) (length st) ≡ true
+    → slot.refusal r ≡ judged a o → Follows (telegram a o) rs st (table.refused r) rs st
+unfolding step slots
+refused-telegram-follows a o r rs st f e =
+    record {
+      answers = rw (f, ← e) refl;
+      records-after = rw (f, ← e) (sym (records-parts rs st));
+      store-after = rw (f, ← e) (sym (store-parts rs st (fits-means (length rs) (length st) f).1));
+    }
+
+pub clock-follows : (time : ℕ) (d : List ℕ) (rs : List Subscription) (st : List ℕ) (s : Result Tally Refusal) (rs' : List Subscription) (st' : List ℕ)
     → Sweeps (Clock time) d rs st s rs' st' → Follows (time_check time) rs st (checked s) rs' st'
 unfolding step slots
 clock-follows time d rs st s rs' st' w =
@@ -146,7 +166,7 @@ clock-follows time d rs st s rs' st' w =
   where
     go : (b : Bool) → fits (length rs) (length st) ≡ b
         → let x = step (time_check time) (record { records = rs; store = st }) in
-        (checked (cond b (Done (tally_after (Clock time) (length d) rs no_tally)) (Refused 1)) ≡ x.answer)
+        (checked (cond b (Ok (tally_after (Clock time) (length d) rs no_tally)) (Err refusal.Sizes)) ≡ x.answer)
         × (cond b (map (record_after (Clock time) (length d)) rs) rs ≡ x.after.records)
         × (cond b (store_after (Clock time) d rs st) st ≡ x.after.store)
     go true f =
@@ -159,27 +179,3 @@ clock-follows time d rs st s rs' st' w =
           store-swept (Clock time) d (mark time) (clock-steps time d) rs st long,
         ) (refl, refl, refl)
     go false f = rw f (refl, refl, refl)
-
--- ---- the time check
-
--- what a sweep answers and leaves
-module _ (ev : Event) (d : List ℕ) (rs : List Subscription) (st : List ℕ) where
-  abbrev pub swept_answer : Swept
-  swept_answer = cond (fits (length rs) (length st)) (Done (tally_after ev (length d) rs no_tally)) (Refused 1)
-
-  abbrev pub swept_records : List Subscription
-  swept_records = cond (fits (length rs) (length st)) (map (record_after ev (length d)) rs) rs
-
-  abbrev pub swept_store : List ℕ
-  swept_store = cond (fits (length rs) (length st)) (store_after ev d rs st) st
-
-checked-is : (s : Swept) → meaning (marked_by s) ≡ checked s
-checked-is (Done t) = refl
-checked-is (Refused r) = refl
-
-pub check-follows : (time : ℕ) (rs : List Subscription) (st : List ℕ)
-    → let s = swept_answer (Clock time) [] rs st in
-    Follows (time_check time) rs st (meaning (marked_by s)) (swept_records (Clock time) [] rs st) (swept_store (Clock time) [] rs st)
-check-follows time rs st =
-    let s = swept_answer (Clock time) [] rs st in
-    rw (checked-is s) (clock-follows time [] rs st s (swept_records (Clock time) [] rs st) (swept_store (Clock time) [] rs st) (record { answers = refl; records-after = refl; store-after = refl }))

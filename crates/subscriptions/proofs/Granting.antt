@@ -1,120 +1,137 @@
 -- Subscribing, in terms of the table's rules.
 -- Assumes nothing.
-use Prim.Native.Nat.{ℕ, suc, ◌+◌, ◌*◌, ◌<◌, ◌≤◌}
+use Prim.Native.Nat.{ℕ, suc, ◌+◌, ◌*◌, ◌<◌}
 use native.Mathlib.Omega.{arith}
-use native.Mathlib.Nat.{suc-mul, mul-le-mul_right}
-use mathlib.Core.Path.{◌≡◌, refl, sym}
+use mathlib.Core.Path.{◌≡◌, refl, sym, ap, ◌∙◌}
 use mathlib.Core.List.{List, [], ◌∷◌}
-use mathlib.Core.Bool.{Bool, true, false, not, true≢false, false≢true}
-use mathlib.Core.Option.{Option, none, some}
+use mathlib.Core.Bool.{Bool, true, false, cond, not}
+use mathlib.Core.Option as math
 use lib.ListN.{length, drop, set}
-use Rattle.tables.specs.Lists.{any, lowest, grant}
+use Rattle.tables.specs.Lists.{any, lowest, next, grant}
 use Rattle.tables.proofs.Lists.{lowest-is}
-use Rattle.subscription.specs.Record.{in_use, free_record, unsound, granted_record}
+use Rattle.subscription.specs.Record.{in_use, free_record, record_holds, unsound, granted_record}
 use Rattle.subscription_table.specs.Slot.{Request, slot_octets, granted_cell}
-use Rattle.subscription_table.specs.Table.{Call, fits, parts, subscribe, granted, refused, early, holds, lent_after, slots, step}
-use Rattle.subscription.specs.declared.Filter.{Filter}
+use Rattle.subscription_table.specs.Table.{Table, Answer, fits, parts, subscribe, granted, refused, early, holds, lent_after, slots, step}
 use Rattle.subscription.specs.declared.Subscription.{Subscription}
 use Rattle.subscription_table.proofs.Flat.{records-parts, store-parts, records-set, store-set}
 use Rattle.subscription_table.proofs.Lent.{fits-means}
-use Rattle.subscription_decisions.specs.declared.Found.{Found}
-use Rattle.subscriptions.specs.Calls.{Follows}
-use Rattle.subscription_decisions.specs.Calls.{meaning}
-use Rattle.subscriptions.specs.Search.{found_of, holding, is_free, found_in}
-use Rattle.subscription_decisions.specs.Named.{no_slot, cleared, decided, denied}
+use Rattle.subscriptions.specs.Calls.{Follows, cleared}
+use Rattle.subscriptions.specs.Search.{granting, is_free}
+use Rattle.std.specs.Prelude.{nat_lt, Ok, Err, None, Option, Result, Some}
+use Rattle.std.specs.List.{list_any, position, position_or_len}
+use Rattle.std.specs.Option.{ok_or}
+use Rattle.refusal.specs.declared.Refusal.{Refusal}
+use Rattle.refusal.specs.declared.Refusal.TheVariants as refusal
+use Rattle.tables.specs.Trace.{Outcome}
 use Rattle.subscriptions.proofs.Slot.{zeroed}
 
-abbrev pub request : Filter → ℕ → ℕ → Request
-request f timeout behaviour = record { filter = f; timeout = timeout; behaviour = behaviour }
+-- ---- std's searches are those of the rules
+
+abbrev pub found : Option ℕ → math.Option ℕ
+found None = math.none
+found (Some k) = math.some k
+
+module _ {X : Type 0} (p : X → Bool) where
+  any-is : (xs : List X) → any p xs ≡ list_any p xs
+  any-is [] = refl
+  any-is (x ∷ xs) = rw (any-is xs) refl
+
+  further : (n m : ℕ) → nat_lt (1 + n) (suc m) ≡ nat_lt n m
+  further n m = grind arith
+
+  within : (m : ℕ) → nat_lt 0 (suc m) ≡ true
+  within m = grind arith
+
+  later : (b : Bool) (n : ℕ) → next (found (cond b (Some n) None)) ≡ found (cond b (Some (1 + n)) None)
+  later true n = let e : 1 + n ≡ suc n = omega arith in rw e refl
+  later false n = refl
+
+  lowest-is-found : (xs : List X) → lowest p xs ≡ found (position p xs)
+  lowest-is-found [] = refl
+  lowest-is-found (x ∷ xs) = go (p x) refl (lowest-is-found xs)
+    where
+      go : (b : Bool) → p x ≡ b → lowest p xs ≡ found (position p xs)
+          → cond (p x) (math.some 0) (next (lowest p xs)) ≡ found (position p (x ∷ xs))
+      go true e h = rw (e, within (length xs)) refl
+      go false e h = rw (e, h, further (position_or_len p xs) (length xs)) (later (nat_lt (position_or_len p xs) (length xs)) (position_or_len p xs))
 
 -- what the records show, the slots show
-any-parts : (q : Request) (rs : List Subscription) (st : List ℕ) → any (holds q) (parts rs st) ≡ any (holding q.filter) rs
+any-parts : (q : Request) (rs : List Subscription) (st : List ℕ)
+    → any (holds q) (parts rs st) ≡ any (record_holds q.filter) rs
 unfolding parts
 any-parts q [] st = refl
 any-parts q (r ∷ rs) st = rw (any-parts q rs (drop slot_octets st)) refl
 
-lowest-parts : (rs : List Subscription) (st : List ℕ) → lowest (λ x. not (in_use x.slot)) (parts rs st) ≡ lowest is_free rs
+lowest-parts : (rs : List Subscription) (st : List ℕ)
+    → lowest (λ x. not (in_use x.slot)) (parts rs st) ≡ lowest is_free rs
 unfolding parts
 lowest-parts [] st = refl
 lowest-parts (r ∷ rs) st = rw (lowest-parts rs (drop slot_octets st)) refl
 
--- sizes are wrong: all stays
-pub unfit-follows : (c : Call) (rs : List Subscription) (st : List ℕ) → not (fits (length rs) (length st)) ≡ true
-    → Follows c rs st (meaning (no_slot (length rs) (length st))) rs st
-unfolding step
-unfit-follows c rs st e = go (fits (length rs) (length st)) refl e
-  where
-    go : (b : Bool) → fits (length rs) (length st) ≡ b → not b ≡ true → Follows c rs st (meaning (no_slot (length rs) (length st))) rs st
-    go true f h = absurd (false≢true h)
-    go false f h = record { answers = rw f refl; records-after = rw f refl; store-after = rw f refl }
+module _ (q : Request) (time : ℕ) (rs : List Subscription) (st : List ℕ) (fitting : fits (length rs) (length st) ≡ true) where
+  long : length st ≡ length rs * slot_octets
+  long = (fits-means (length rs) (length st) fitting).1
 
-pub fit : (b : Bool) → not b ≡ false → b ≡ true
-fit true e = refl
-fit false e = sym e
-
-module _ (q : Request) (time : ℕ) (rs : List Subscription) (st : List ℕ) (e : not (fits (length rs) (length st)) ≡ false) where
-  abbrev found : Found
-  found = found_in q.filter rs
+  abbrev left : Bool → Bool → Option ℕ → Outcome Answer Table
+  left b a o = lent_after (grant (early b a) (found o) (refused refusal.NoFreeSlot) granted (granted_cell q time) (parts rs st))
 
   abbrev bad : Bool
   bad = unsound q.filter
 
-  fitting : fits (length rs) (length st) ≡ true
-  fitting = fit (fits (length rs) (length st)) e
+  abbrev held : Bool
+  held = list_any (record_holds q.filter) rs
 
-  long : length st ≡ length rs * slot_octets
-  long = (fits-means (length rs) (length st) fitting).1
+  abbrev lowest_slot : Option ℕ
+  lowest_slot = position is_free rs
 
-  steps : step (subscribe q time) (record { records = rs; store = st }) ≡ lent_after (grant (early bad (any (holding q.filter) rs)) (lowest is_free rs) (refused 13) granted (granted_cell q time) (parts rs st))
+  steps : step (subscribe q time) (record { records = rs; store = st }) ≡ left bad held lowest_slot
   unfolding step slots
-  steps = rw (fitting, any-parts q rs st, lowest-parts rs st) refl
+  steps = rw (fitting, any-parts q rs st, any-is (record_holds q.filter) rs, lowest-parts rs st, lowest-is-found is_free rs) refl
+
+  abbrev chosen : Bool → Bool → Option ℕ → Result ℕ Refusal
+  chosen b a o = cond b (Err refusal.Range) (cond a (Err refusal.FilterInUse) (ok_or o refusal.NoFreeSlot))
 
   -- 11, 12, 13: all stays
-  stays : (b a : Bool) (o : Option ℕ) → denied (decided b (found_of a o)) ≡ true
-      → let z = lent_after (grant (early b a) o (refused 13) granted (granted_cell q time) (parts rs st)) in
-      (meaning (decided b (found_of a o)) ≡ z.answer) × (rs ≡ z.after.records) × (st ≡ z.after.store)
+  stays : (b a : Bool) (o : Option ℕ) (r : Refusal) → chosen b a o ≡ Err r
+      → (refused r ≡ (left b a o).answer) × (rs ≡ (left b a o).after.records) × (st ≡ (left b a o).after.store)
   unfolding grant
-  stays true a o h = (refl, sym (records-parts rs st), sym (store-parts rs st long))
-  stays false true none h = (refl, sym (records-parts rs st), sym (store-parts rs st long))
-  stays false true (some k) h = (refl, sym (records-parts rs st), sym (store-parts rs st long))
-  stays false false none h = (refl, sym (records-parts rs st), sym (store-parts rs st long))
-  stays false false (some k) h = absurd (false≢true h)
+  stays true a o r h = let e : r ≡ refusal.Range = grind arith in (rw e refl, sym (records-parts rs st), sym (store-parts rs st long))
+  stays false true o r h = let e : r ≡ refusal.FilterInUse = grind arith in (rw e refl, sym (records-parts rs st), sym (store-parts rs st long))
+  stays false false None r h = let e : r ≡ refusal.NoFreeSlot = grind arith in (rw e refl, sym (records-parts rs st), sym (store-parts rs st long))
+  stays false false (Some k) r h = grind arith
 
-  pub denied-follows : denied (decided bad found) ≡ true → Follows (subscribe q time) rs st (meaning (decided bad found)) rs st
-  denied-follows d =
-      let z = stays bad (any (holding q.filter) rs) (lowest is_free rs) d in
+  pub refused-follows : (r : Refusal) → granting q.filter rs ≡ Err r
+      → Follows (subscribe q time) rs st (refused r) rs st
+  refused-follows r h =
+      let z = stays bad held lowest_slot r h in
       record { answers = rw steps z.0; records-after = rw steps z.1; store-after = rw steps z.2 }
 
-  -- the lowest free slot is there
-  free-there : (b a : Bool) (o : Option ℕ) → lowest is_free rs ≡ o → denied (decided b (found_of a o)) ≡ false → (found_of a o).slot < length rs
-  free-there true a o l h = absurd (true≢false h)
-  free-there false true none l h = absurd (true≢false h)
-  free-there false true (some k) l h = absurd (true≢false h)
-  free-there false false none l h = absurd (true≢false h)
-  free-there false false (some k) l h = (lowest-is is_free free_record rs k l).0
-
-  pub slot-there : denied (decided bad found) ≡ false → (found.slot < length rs) × (found.slot * 1432 + 1432 ≤ length st)
-  unfolding slot_octets
-  slot-there d =
-      let n : found.slot < length rs = free-there bad (any (holding q.filter) rs) (lowest is_free rs) refl d in
-      let l : suc found.slot * 1432 ≤ length rs * 1432 = mul-le-mul_right 1432 n in
-      (n, omega (arith, long, l, suc-mul found.slot 1432))
-
-  -- it is granted, and its part zeroed
-  grants : (b a : Bool) (o : Option ℕ) → denied (decided b (found_of a o)) ≡ false → (found_of a o).slot < length rs
-      → let k = (found_of a o).slot in
-      let z = lent_after (grant (early b a) o (refused 13) granted (granted_cell q time) (parts rs st)) in
-      (meaning (decided b (found_of a o)) ≡ z.answer) × (set rs k (granted_record q.filter q.timeout q.behaviour time) ≡ z.after.records) × (cleared k st ≡ z.after.store)
+  -- the lowest free slot is granted, and its part zeroed
+  grants : (b a : Bool) (o : Option ℕ) (k : ℕ) → chosen b a o ≡ Ok k → k < length rs
+      → (granted k ≡ (left b a o).answer)
+      × (set rs k (granted_record q.filter q.timeout q.behaviour time) ≡ (left b a o).after.records)
+      × (cleared k st ≡ (left b a o).after.store)
   unfolding grant
-  grants true a o h n = absurd (true≢false h)
-  grants false true none h n = absurd (true≢false h)
-  grants false true (some k) h n = absurd (true≢false h)
-  grants false false none h n = absurd (true≢false h)
-  grants false false (some k) h n =
-      (refl, rw (records-set (parts rs st) k (granted_cell q time), records-parts rs st) refl, rw (store-set rs st k (granted_cell q time) n long) (zeroed st k))
+  grants true a o k h n = grind arith
+  grants false true o k h n = grind arith
+  grants false false None k h n = grind arith
+  grants false false (Some j) k h n =
+      let e : j ≡ k = grind arith in
+      rw e (refl, rw (records-set (parts rs st) k (granted_cell q time), records-parts rs st) refl, rw (store-set rs st k (granted_cell q time) n long) (zeroed st k))
 
-  pub granted-follows : denied (decided bad found) ≡ false
-      → Follows (subscribe q time) rs st (meaning (decided bad found)) (set rs found.slot (granted_record q.filter q.timeout q.behaviour time)) (cleared found.slot st)
-  granted-follows d =
-      let z = grants bad (any (holding q.filter) rs) (lowest is_free rs) d (slot-there d).0 in
+  pub granted-there : (k : ℕ) → granting q.filter rs ≡ Ok k → k < length rs
+  granted-there k h = go bad held lowest_slot refl h
+    where
+      go : (b a : Bool) (o : Option ℕ) → lowest_slot ≡ o → chosen b a o ≡ Ok k → k < length rs
+      go true a o l h = grind arith
+      go false true o l h = grind arith
+      go false false None l h = grind arith
+      go false false (Some j) l h =
+          let e : j ≡ k = grind arith in
+          rw (← e) (lowest-is is_free free_record rs j (lowest-is-found is_free rs ∙ ap found l)).0
+
+  pub granted-follows : (k : ℕ) → granting q.filter rs ≡ Ok k
+      → Follows (subscribe q time) rs st (granted k) (set rs k (granted_record q.filter q.timeout q.behaviour time)) (cleared k st)
+  granted-follows k h =
+      let z = grants bad held lowest_slot k h (granted-there k h) in
       record { answers = rw steps z.0; records-after = rw steps z.1; store-after = rw steps z.2 }

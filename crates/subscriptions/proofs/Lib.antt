@@ -1,10 +1,7 @@
-pub mod Seeking
+pub mod Sizes
 pub mod Slots
 pub mod Follow
 pub mod Slot
-pub mod Searching
 pub mod Granting
-pub mod Arriving
 pub mod Viewing
-pub mod Recording
 pub mod History

@@ -1,61 +1,29 @@
 -- A call that names a slot, in terms of the table's rules.
 -- Assumes nothing.
 use Prim.Native.Nat.{ℕ, suc, ◌+◌, ◌*◌, ◌<◌, ◌≤◌}
-use native.Mathlib.Omega.{arith}
-use native.Mathlib.Nat.{suc-mul, mul-le-mul_right}
+use native.Mathlib.Nat.{suc-mul}
 use mathlib.Core.Path.{◌≡◌, refl, sym, ap}
 use mathlib.Core.List.{List, [], ◌∷◌, ◌++◌, append_assoc}
-use mathlib.Core.Bool.{Bool, true, false, cond, true≢false}
+use mathlib.Core.Bool.{Bool, true, false, false≢true}
 use lib.Dec.{leb}
 use lib.ListN.{length, take, drop, get_or, set, replicate, length-replicate, take-append-drop}
-use lib.Seq.{set_out, drop-drop}
+use lib.Seq.{set_out, set-get_or, drop-drop}
 use borrow.Author.Tests.{leb-true, leb-false}
 use Rattle.tables.specs.Lists.{at_slot}
 use Rattle.tables.proofs.Arrays.{past}
 use Rattle.subscription.specs.Record.{in_use, free_record}
 use Rattle.subscription_table.specs.Slot.{Cell, slot_octets, free_cell}
-use Rattle.subscription_table.specs.Table.{Table, fits, parts, unsubscribe, unsubscribed, slots, step}
+use Rattle.subscription_table.specs.Table.{Table, fits, parts, unsubscribe, unsubscribed, freed, refused, slots, step}
 use Rattle.subscription.specs.declared.Subscription.{Subscription}
 use Rattle.subscription_table.proofs.Flat.{records-parts, store-parts, named_flat}
 use Rattle.subscription_table.proofs.Lent.{fits-means}
-use Rattle.subscriptions.specs.Calls.{Follows}
-use Rattle.subscription_decisions.specs.Calls.{meaning}
-use Rattle.subscription_decisions.specs.Named.{away, no_slot, cleared, released_of, released_store}
-
--- the slot is there: it has a record, and a part of the store
-pub here : (rs : List Subscription) (st : List ℕ) (k : ℕ) → away (length rs) (length st) k ≡ false → (k < length rs) × (k * 1432 + 1432 ≤ length st)
-unfolding slot_octets
-here rs st k e = go (fits (length rs) (length st)) refl e
-  where
-    go : (b : Bool) → fits (length rs) (length st) ≡ b → cond b (leb (length rs) k) true ≡ false → (k < length rs) × (k * 1432 + 1432 ≤ length st)
-    go true f h =
-        let n = leb-false (length rs) k h in
-        let m = (fits-means (length rs) (length st) f).1 in
-        let l : suc k * 1432 ≤ length rs * 1432 = mul-le-mul_right 1432 n in
-        (n, omega (arith, m, l, suc-mul k 1432))
-    go false f h = absurd (true≢false h)
+use Rattle.subscriptions.specs.Calls.{Follows, cleared}
+use Rattle.refusal.specs.declared.Refusal.TheVariants as refusal
 
 pub length-parts : (rs : List Subscription) (st : List ℕ) → length (parts rs st) ≡ length rs
 unfolding parts
 length-parts [] st = refl
 length-parts (r ∷ rs) st = ap suc (length-parts rs (drop slot_octets st))
-
--- the slot is not there: all stays
-pub away-follows : (rs : List Subscription) (st : List ℕ) (k : ℕ) → away (length rs) (length st) k ≡ true
-    → Follows (unsubscribe k) rs st (meaning (no_slot (length rs) (length st))) rs st
-unfolding step slots at_slot
-away-follows rs st k e = go (fits (length rs) (length st)) refl e
-  where
-    go : (b : Bool) → fits (length rs) (length st) ≡ b → cond b (leb (length rs) k) true ≡ true → Follows (unsubscribe k) rs st (meaning (no_slot (length rs) (length st))) rs st
-    go true f h =
-        let out : length (parts rs st) ≤ k = rw (length-parts rs st) (leb-true (length rs) k h) in
-        let long = (fits-means (length rs) (length st) f).1 in
-        record {
-          answers = rw (f, past (parts rs st) k free_cell out) refl;
-          records-after = rw (f, past (parts rs st) k free_cell out, set_out (parts rs st) k free_cell out) (sym (records-parts rs st));
-          store-after = rw (f, past (parts rs st) k free_cell out, set_out (parts rs st) k free_cell out) (sym (store-parts rs st long));
-        }
-    go false f h = record { answers = rw f refl; records-after = rw f refl; store-after = rw f refl }
 
 -- a part put back where it was taken from
 whole : (st : List ℕ) (k : ℕ) → st ≡ take (k * slot_octets) st ++ (take slot_octets (drop (k * slot_octets) st) ++ drop (suc k * slot_octets) st)
@@ -63,7 +31,8 @@ whole st k =
     rw (suc-mul k slot_octets, ← drop-drop slot_octets (k * slot_octets) st, take-append-drop slot_octets (drop (k * slot_octets) st))
     (sym (take-append-drop (k * slot_octets) st))
 
-pub zeroed : (st : List ℕ) (k : ℕ) → cleared k st ≡ take (k * slot_octets) st ++ (replicate slot_octets 0 ++ drop (suc k * slot_octets) st)
+pub zeroed : (st : List ℕ) (k : ℕ) → cleared k st
+    ≡ take (k * slot_octets) st ++ (replicate slot_octets 0 ++ drop (suc k * slot_octets) st)
 zeroed st k = let n : length (replicate {A = ℕ} slot_octets 0) ≡ slot_octets = length-replicate slot_octets 0 in
     rw (n, suc-mul k slot_octets) (append_assoc (take (k * slot_octets) st) (replicate slot_octets 0) (drop (k * slot_octets + slot_octets) st))
 
@@ -75,23 +44,48 @@ module _ (rs : List Subscription) (st : List ℕ) (k : ℕ) (f : fits (length rs
   abbrev left : Cell → Table
   left x = record { records = set rs k x.slot; store = take (k * slot_octets) st ++ (x.octets ++ drop (suc k * slot_octets) st) }
 
-  steps : step (unsubscribe k) (record { records = rs; store = st }) ≡ record { answer = (unsubscribed cell).answer; after = left (unsubscribed cell).after }
+  steps : step (unsubscribe k) (record { records = rs; store = st })
+      ≡ record { answer = (unsubscribed cell).answer; after = left (unsubscribed cell).after }
   unfolding step slots
   steps = rw f (named_flat unsubscribed rs st k lt (fits-means (length rs) (length st) f).1)
 
-  frees : (b : Bool) → in_use (get_or rs k free_record) ≡ b
-      → let r = get_or rs k free_record in
-      Follows (unsubscribe k) rs st (meaning (released_of r).answer) (set rs k (released_of r).slot) (released_store r k st)
-  frees true u = record { answers = rw (steps, u) refl; records-after = rw (steps, u) refl; store-after = rw (steps, u) (zeroed st k) }
-  frees false u = record { answers = rw (steps, u) refl; records-after = rw (steps, u) refl; store-after = rw (steps, u) (whole st k) }
+  -- a slot in use is freed, a free one stays
+  freed-follows : in_use (get_or rs k free_record) ≡ true
+      → Follows (unsubscribe k) rs st freed (set rs k free_record) (cleared k st)
+  freed-follows u = record { answers = rw (steps, u) refl; records-after = rw (steps, u) refl; store-after = rw (steps, u) (zeroed st k) }
 
-pub here-follows : (rs : List Subscription) (st : List ℕ) (k : ℕ) → away (length rs) (length st) k ≡ false
-    → let r = get_or rs k free_record in
-    Follows (unsubscribe k) rs st (meaning (released_of r).answer) (set rs k (released_of r).slot) (released_store r k st)
-here-follows rs st k e = go (fits (length rs) (length st)) refl e
+  free-follows : in_use (get_or rs k free_record) ≡ false → Follows (unsubscribe k) rs st (refused refusal.NoSlot) rs st
+  free-follows u =
+      record { answers = rw (steps, u) refl; records-after = rw (steps, u) (sym (set-get_or rs k free_record)); store-after = rw (steps, u) (whole st k) }
+
+-- a slot in use is there
+pub used-there : (rs : List Subscription) (k : ℕ) → in_use (get_or rs k free_record) ≡ true → k < length rs
+used-there rs k u = go (leb (length rs) k) refl
   where
-    go : (b : Bool) → fits (length rs) (length st) ≡ b → cond b (leb (length rs) k) true ≡ false
-        → let r = get_or rs k free_record in
-        Follows (unsubscribe k) rs st (meaning (released_of r).answer) (set rs k (released_of r).slot) (released_store r k st)
-    go true f h = frees rs st k f (leb-false (length rs) k h) (in_use (get_or rs k free_record)) refl
-    go false f h = absurd (true≢false h)
+    go : (b : Bool) → leb (length rs) k ≡ b → k < length rs
+    go true h = let z : in_use free_record
+        ≡ true = rw (past rs k free_record (leb-true (length rs) k h)) at u in absurd (false≢true z)
+    go false h = leb-false (length rs) k h
+
+pub unsubscribed-follows : (rs : List Subscription) (st : List ℕ) (k : ℕ) → fits (length rs) (length st) ≡ true
+    → in_use (get_or rs k free_record) ≡ true
+    → Follows (unsubscribe k) rs st freed (set rs k free_record) (cleared k st)
+unsubscribed-follows rs st k f u = freed-follows rs st k f (used-there rs k u) u
+
+-- 10: the slot is free, or not there
+pub unused-follows : (rs : List Subscription) (st : List ℕ) (k : ℕ) → fits (length rs) (length st) ≡ true
+    → in_use (get_or rs k free_record) ≡ false
+    → Follows (unsubscribe k) rs st (refused refusal.NoSlot) rs st
+unfolding step slots at_slot
+unused-follows rs st k f u = go (leb (length rs) k) refl
+  where
+    go : (b : Bool) → leb (length rs) k ≡ b → Follows (unsubscribe k) rs st (refused refusal.NoSlot) rs st
+    go true h =
+        let out : length (parts rs st) ≤ k = rw (length-parts rs st) (leb-true (length rs) k h) in
+        let long = (fits-means (length rs) (length st) f).1 in
+        record {
+          answers = rw (f, past (parts rs st) k free_cell out) refl;
+          records-after = rw (f, past (parts rs st) k free_cell out, set_out (parts rs st) k free_cell out) (sym (records-parts rs st));
+          store-after = rw (f, past (parts rs st) k free_cell out, set_out (parts rs st) k free_cell out) (sym (store-parts rs st long));
+        }
+    go false h = free-follows rs st k f (leb-false (length rs) k h) u

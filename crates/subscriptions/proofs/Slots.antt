@@ -5,28 +5,28 @@ use native.Mathlib.Omega.{arith}
 use native.Mathlib.Numerals.{add-one}
 use mathlib.Core.Path.{◌≡◌, refl, sym, ◌∙◌, ap, subst}
 use mathlib.Core.List.{List, [], ◌∷◌, ◌++◌, map, append-nil, append_assoc}
-use mathlib.Core.Bool.{Bool, true, false, not, false≢true}
-use lib.Dec.{ltb}
-use lib.ListN.{length, take, drop, get_or, set, length-append, length-drop, length-set, take-append-drop, drop_of_length-le}
+use mathlib.Core.Bool.{Bool, true, false}
+use lib.ListN.{length, take, drop, get_or, set, length-append, length-drop, take-append-drop, drop_of_length-le}
 use lib.Seq.{drop-cons, take_all, take-suc-set, drop-set-lt, append_snoc, set-get_or, length-take-le, drop-drop, take_at, drop_at}
-use borrow.Author.Tests.{ltb-true, ltb-false}
 use Rattle.octets.specs.Octets.{part, put}
 use Rattle.octets.proofs.Parts.{part_length, put-mid}
 use Rattle.subscription.specs.Record.{free_record}
 use Rattle.subscription_table.specs.Slot.{slot_octets}
-use Rattle.subscription_step.specs.Step.{record_after, part_after, changes, reaches, concerns, tallied, Room}
+use Rattle.subscription_step.specs.Step.{record_after, part_after, changes, reaches, concerns, tallied, no_tally, Room}
 use Rattle.subscription_table.specs.Table.{fits}
 use Rattle.subscription_step.specs.declared.Event.{Event}
 use Rattle.subscription.specs.declared.Subscription.{Subscription}
 use Rattle.subscription_step.specs.declared.Tally.{Tally}
 use Rattle.subscription_table.proofs.Lent.{fits-means}
 use Rattle.subscription_step.proofs.Stepping.{one-small, record-stays, part_stays, tally-stays}
-use Rattle.subscriptions.specs.Sweep.{store_after, tally_after, next_concerned, Sweeps}
-use Rattle.subscription_decisions.specs.Sweep.{no_tally, store_stepped}
-use Rattle.subscription_decisions.specs.declared.Swept.TheVariants.{Done, Refused}
-use Rattle.subscriptions.proofs.Granting.{fit}
-use Rattle.subscriptions.proofs.Seeking.{passes}
+use Rattle.std.specs.Prelude.{Ok, Err}
+use Rattle.refusal.specs.declared.Refusal.{Refusal}
+use Rattle.refusal.specs.declared.Refusal.TheVariants as refusal
+use Rattle.refusal.specs.Refusal.{first_of}
+use Rattle.subscription_decisions.specs.Calls.{size_checks}
+use Rattle.subscriptions.specs.Sweep.{store_after, tally_after, store_stepped, Sweeps}
 use Rattle.subscription_decisions.proofs.Parts.{after-length}
+use Rattle.subscriptions.proofs.Sizes.{sized as sized_by}
 
 -- a part put where it was taken from
 put-part : (n k : ℕ) (s : List ℕ) → k + n ≤ length s → put k (part n k s) s ≡ s
@@ -36,7 +36,7 @@ put-part n k s h =
 
 -- ---- after the slots before number i: what the slots from there on leave is what all slots leave
 pub record Gone (ev : Event) (d : List ℕ) (rs : List Subscription) (st : List ℕ) (c : Tally) (i : ℕ) (rs' : List Subscription) (st' : List ℕ) : Type 0 where
-  pub sized : not (fits (length rs) (length st)) ≡ false
+  pub sized : fits (length rs) (length st) ≡ true
   pub among : i ≤ length rs
   pub room : Room (length rs - i) c
   pub records-left : take i rs' ++ map (record_after ev (length d)) (drop i rs') ≡ map (record_after ev (length d)) rs
@@ -45,23 +45,25 @@ pub record Gone (ev : Event) (d : List ℕ) (rs : List Subscription) (st : List 
 
 module _ (ev : Event) (d : List ℕ) (rs : List Subscription) (st : List ℕ) where
   -- sizes are wrong: all stays
-  pub unswept : not (fits (length rs) (length st)) ≡ true → Sweeps ev d rs st (Refused 1) rs st
-  unswept e = go (fits (length rs) (length st)) refl e
+  pub unswept : (r : Refusal) → first_of (size_checks (length rs) (length st)) ≡ Err r → Sweeps ev d rs st (Err r) rs st
+  unswept r e = go (fits (length rs) (length st)) refl e
     where
-      go : (b : Bool) → fits (length rs) (length st) ≡ b → not b ≡ true → Sweeps ev d rs st (Refused 1) rs st
-      go true f h = absurd (false≢true h)
-      go false f h = record { answers = rw f refl; records-after = rw f refl; store-after = rw f refl }
+      go : (b : Bool) → fits (length rs) (length st) ≡ b → sized_by b ≡ Err r → Sweeps ev d rs st (Err r) rs st
+      go true f h = grind arith
+      go false f h =
+          let e : refusal.Sizes ≡ r = grind arith in
+          record { answers = rw (← e, f) refl; records-after = rw f refl; store-after = rw f refl }
 
-  module _ (sized : not (fits (length rs) (length st)) ≡ false) where
-    fitting : fits (length rs) (length st) ≡ true
-    fitting = fit (fits (length rs) (length st)) sized
+  module _ (sized : fits (length rs) (length st) ≡ true) where
+    abbrev fitting : fits (length rs) (length st) ≡ true
+    fitting = sized
 
     -- the store has a part for each slot
     enough : length st ≡ length rs * 1432
     unfolding slot_octets
     enough = (fits-means (length rs) (length st) fitting).1
 
-    begun : length rs < 2 ^ 64 → Gone ev d rs st no_tally 0 rs st
+    pub begun : length rs < 2 ^ 64 → Gone ev d rs st no_tally 0 rs st
     begun h = record { sized = sized; among = omega arith; room = record { matched = omega arith; changed = omega arith }; records-left = refl; store-left = refl; tally-left = refl }
 
     module _ (c : Tally) (i : ℕ) (rs' : List Subscription) (st' : List ℕ) (same : length rs' ≡ length rs) (same_Store : length st' ≡ length st) where
@@ -95,14 +97,16 @@ module _ (ev : Event) (d : List ℕ) (rs : List Subscription) (st : List ℕ) wh
         p-length = after-length ev d r (part 1432 (i * 1432) st') (part_length 1432 (i * 1432) st' part_in)
 
         ends : length (take (i * 1432) st' ++ p) ≡ suc i * 1432
-        ends = length-append (take (i * 1432) st') p ∙ omega (arith, p-length, length-take-le (i * 1432) st' (omega (arith, part_in)))
+        ends = length-append (take (i * 1432) st') p
+            ∙ omega (arith, p-length, length-take-le (i * 1432) st' (omega (arith, part_in)))
 
         abbrev rest : List ℕ
         rest = drop (i * 1432 + length p) st'
 
         pub same_length : length (store_stepped ev d r i st') ≡ length st'
         unfolding slot_octets
-        same_length = length-append (take (i * 1432) st' ++ p) rest ∙ omega (arith, ends, part_in, p-length, length-drop (i * 1432 + length p) st')
+        same_length = length-append (take (i * 1432) st' ++ p) rest
+            ∙ omega (arith, ends, part_in, p-length, length-drop (i * 1432 + length p) st')
 
         store-on : take (suc i * 1432) (put (i * 1432) p st') ++ store_after ev d (drop (suc i) (set rs' i y)) (drop (suc i * 1432) (put (i * 1432) p st'))
             ≡ take (i * 1432) st' ++ store_after ev d (drop i rs') (drop (i * 1432) st')
@@ -132,7 +136,7 @@ module _ (ev : Event) (d : List ℕ) (rs : List Subscription) (st : List ℕ) wh
             }
 
         -- the event does not concern slot i
-        skipped : concerns ev r ≡ false → Gone ev d rs st c (i + 1) rs' st'
+        pub skipped : concerns ev r ≡ false → Gone ev d rs st c (i + 1) rs' st'
         unfolding slot_octets
         skipped e =
             subst (λ (t : Tally). Gone ev d rs st t (i + 1) rs' st') (tally-stays ev r e (length d) c)
@@ -141,43 +145,13 @@ module _ (ev : Event) (d : List ℕ) (rs : List Subscription) (st : List ℕ) wh
             stepped))
 
       -- all slots are behind
-      pub swept : Gone ev d rs st c i rs' st' → ltb i (length rs) ≡ false → Sweeps ev d rs st (Done c) rs' st'
+      pub swept : Gone ev d rs st c i rs' st' → length rs ≤ i → Sweeps ev d rs st (Ok c) rs' st'
       swept g b =
-          let none : drop i rs' ≡ [] = drop_of_length-le rs' {i = i} (omega (arith, same, ltb-false i (length rs) b)) in
-          let all : take i rs' ≡ rs' = take_all i rs' (omega (arith, same, ltb-false i (length rs) b)) in
+          let none : drop i rs' ≡ [] = drop_of_length-le rs' {i = i} (omega (arith, same, b)) in
+          let all : take i rs' ≡ rs' = take_all i rs' (omega (arith, same, b)) in
           record {
-            answers = rw fitting (ap Done (ap (λ (l : List Subscription). tally_after ev (length d) l c) (sym none) ∙ g.tally-left));
+            answers = rw fitting (ap (λ (t : Tally). Ok t) (ap (λ (l : List Subscription). tally_after ev (length d) l c) (sym none) ∙ g.tally-left));
             records-after =
                 rw fitting (sym (append-nil rs') ∙ ap (λ (l : List Subscription). l ++ []) (sym all) ∙ ap (λ (l : List Subscription). take i rs' ++ map (record_after ev (length d)) l) (sym none) ∙ g.records-left);
             store-after = rw fitting (sym (take-append-drop (i * 1432) st') ∙ ap (λ (l : List Subscription). take (i * 1432) st' ++ store_after ev d l (drop (i * 1432) st')) (sym none) ∙ g.store-left);
           }
-
-    -- from number i to the next slot that the event concerns
-    goes_to : (c : Tally) (i : ℕ) (rs' : List Subscription) (st' : List ℕ) → length rs' ≡ length rs → length st' ≡ length st → Gone ev d rs st c i rs' st'
-        → (i ≤ next_concerned ev i rs') × Gone ev d rs st c (next_concerned ev i rs') rs' st'
-    goes_to c i rs' st' same same_Store g =
-        passes ev rs' (λ (k : ℕ). (i ≤ k) × Gone ev d rs st c k rs' st') (λ k h e q. (omega (arith, q.0), skipped c k rs' st' same same_Store q.1 (omega (arith, h, same)) e))
-        (length rs - i) i (omega (arith, same, g.among)) (omega arith, g)
-
-    pub starts : length rs < 2 ^ 64 → Gone ev d rs st no_tally (next_concerned ev 0 rs) rs st
-    starts h = (goes_to no_tally 0 rs st refl refl (begun h)).1
-
-    module _ (c : Tally) (i : ℕ) (rs' : List Subscription) (st' : List ℕ) (same : length rs' ≡ length rs) (same_Store : length st' ≡ length st) (g : Gone ev d rs st c i rs' st') (b : ltb i (length rs) ≡ true) where
-      abbrev x : Subscription
-      x = get_or rs' i free_record
-
-      abbrev now-records : List Subscription
-      now-records = set rs' i (record_after ev (length d) x)
-
-      abbrev now-store : List ℕ
-      now-store = store_stepped ev d x i st'
-
-      on : (i + 1 ≤ next_concerned ev (i + 1) now-records) × Gone ev d rs st (tallied ev (length d) x c) (next_concerned ev (i + 1) now-records) now-records now-store
-      on = goes_to (tallied ev (length d) x c) (i + 1) now-records now-store (length-set rs' i (record_after ev (length d) x) ∙ same) (same_length c i rs' st' same same_Store g (ltb-true i (length rs) b) ∙ same_Store) (stepped c i rs' st' same same_Store g (ltb-true i (length rs) b))
-
-      -- a turn: slot i takes the event, and the next one that it concerns follows
-      pub goes_on : Gone ev d rs st (tallied ev (length d) x c) (next_concerned ev (i + 1) now-records) now-records now-store
-      goes_on = on.1
-
-      pub nearer : length rs - next_concerned ev (i + 1) now-records < length rs - i
-      nearer = omega (arith, on.0, ltb-true i (length rs) b)

@@ -20,7 +20,8 @@ use Rattle.tables.proofs.Arrays.{past}
 use Rattle.subscriptions.proofs.Slot.{length-parts}
 
 -- one slot that is there
-cell-reads : (k : ℕ) (set : List ℕ) (st : List ℕ) (r : Subscription) → shown k set st (read_by true r) ≡ reading set (record { slot = r; octets = take slot_octets (drop (k * slot_octets) st) })
+cell-reads : (k : ℕ) (set : List ℕ) (st : List ℕ) (r : Subscription)
+    → shown k set st (read_by true r) ≡ reading set (record { slot = r; octets = take slot_octets (drop (k * slot_octets) st) })
 unfolding overlong cell_shows
 cell-reads k set st r = used (in_use r) refl
   where
@@ -37,19 +38,23 @@ cell-reads k set st r = used (in_use r) refl
     used true u = long (ltb slot_octets r.length) refl u
     used false u = rw u refl
 
-pub reads : (k : ℕ) (rs : List Subscription) (st : List ℕ) → Reads k rs st (read_by (fits (length rs) (length st)) (get_or rs k free_record))
+pub reads : (k : ℕ) (rs : List Subscription) (st : List ℕ)
+    → Reads k rs st (read_by (fits (length rs) (length st)) (get_or rs k free_record))
 unfolding step slots at_slot
 reads k rs st = record { answers = λ set. go set (fits (length rs) (length st)) refl }
   where
-    there : (set : List ℕ) (b : Bool) → ltb k (length rs) ≡ b → shown k set st (read_by true (get_or rs k free_record)) ≡ reading set (get_or (parts rs st) k free_cell)
-    there set true h = cell-reads k set st (get_or rs k free_record) ∙ ap (reading set) (sym (parts_at rs st k (ltb-true k (length rs) h)))
+    there : (set : List ℕ) (b : Bool) → ltb k (length rs) ≡ b
+        → shown k set st (read_by true (get_or rs k free_record)) ≡ reading set (get_or (parts rs st) k free_cell)
+    there set true h = cell-reads k set st (get_or rs k free_record)
+        ∙ ap (reading set) (sym (parts_at rs st k (ltb-true k (length rs) h)))
     there set false h =
         let n : length rs ≤ k = ltb-false k (length rs) h in
         let m : length (parts rs st) ≤ k = rw (length-parts rs st) n in
         rw (past rs k free_record n, past (parts rs st) k free_cell m) refl
 
     go : (set : List ℕ) (b : Bool) → fits (length rs) (length st) ≡ b
-        → shown k set st (read_by b (get_or rs k free_record)) ≡ (step (read k set) (record { records = rs; store = st })).answer
+        → shown k set st (read_by b (get_or rs k free_record))
+        ≡ (step (read k set) (record { records = rs; store = st })).answer
     go set true f = rw f (there set (ltb k (length rs)) refl)
     go set false f = rw f refl
 

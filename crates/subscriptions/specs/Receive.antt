@@ -13,7 +13,8 @@ abbrev pub recorded : Answer → Statistics → Statistics
 recorded a s = cond (uncounted a) s (added Pd (outcome_of a) s)
 
 -- a telegram over lent records, store and statistics
-pub record Receives (a : Arrival) (datagram : List ℕ) (records : List Subscription) (store : List ℕ) (statistics : Statistics) (answer : Answer) (records' : List Subscription) (store' : List ℕ) (statistics' : Statistics) : Type 0 where
+pub record Receives (a : Arrival) (datagram : List ℕ) (records : List Subscription) (store : List ℕ) (statistics : Statistics)
+    (answer : Answer) (records' : List Subscription) (store' : List ℕ) (statistics' : Statistics) : Type 0 where
   pub answers : answer ≡ (step (telegram a datagram) (record { records = records; store = store })).answer
   pub records-after : records' ≡ (step (telegram a datagram) (record { records = records; store = store })).after.records
   pub store-after : store' ≡ (step (telegram a datagram) (record { records = records; store = store })).after.store

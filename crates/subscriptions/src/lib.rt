@@ -1,178 +1,224 @@
 // The subscription table over lent memory: records, and a store of 1432 octets for each.
 #![tactic(auto)]
 
-ghost use Rattle.std.specs.Prelude.{◌≡◌, get_or};
-ghost use Rattle.subscription.specs.Record.{free_record};
+ghost use Rattle.std.specs.Prelude.{◌≡◌, ◌+◌, ◌*◌, ◌<◌, ◌≤◌, get_or, length, set};
+ghost use Rattle.std.specs.List.{list_any, position};
+ghost use Rattle.refusal.specs.Refusal.{first_of};
+ghost use Rattle.subscription.specs.Record.{free_record, in_use, record_holds};
+ghost use Rattle.subscription_step.specs.Step.{Room, record_after, tallied};
 ghost use Rattle.subscription_table.specs.Table as table;
-ghost use Rattle.subscription_table.specs.Table.{step};
-ghost use Rattle.subscription_decisions.specs.Calls.{meaning};
-ghost use Rattle.subscription_decisions.specs.Read.{octets_of};
-ghost use Rattle.subscriptions.specs.Calls.{Follows};
+ghost use Rattle.subscription_table.specs.Table.{fits, step};
+ghost use Rattle.subscription_decisions.specs.Calls.{size_checks, told};
+ghost use Rattle.subscription_decisions.specs.Read.{octets_of, read_by};
+ghost use Rattle.subscriptions.specs.Calls.{cleared, Lends, Obeys};
 ghost use Rattle.subscriptions.specs.Read.{Reads};
-ghost use Rattle.subscriptions.specs.Receive.{Receives};
-ghost use Rattle.subscriptions.specs.Search.{found_in};
-ghost use Rattle.subscriptions.specs.Sweep.{Sweeps, next_concerned};
+ghost use Rattle.subscriptions.specs.Receive.{recorded};
+ghost use Rattle.subscriptions.specs.Search.{granting, is_free};
+ghost use Rattle.subscriptions.specs.Sweep.{store_stepped, Sweeps};
 
 use arrival::Arrival;
+use refusal::Refusal;
 use statistics::Statistics;
 use subscription::{Filter, Subscription};
-use subscription_decisions::{Answer, Found, Reading, Swept};
-use subscription_step::Event;
+use subscription_decisions::View;
+use subscription_step::{Event, Tally};
 use telegram::Family;
 
-// The first slot from number `from` on that an event concerns; the number of slots where there is none.
-fn next_concerned(t: &[Subscription], ev: Event, from: usize) -> usize
-    ensures { result ≡ next_concerned ev from t.now }
-{
-    let mut end = t.len();
-    let mut i = from;
-    while i < end {
-        end = subscription_decisions::bound(end, t[i], ev, i);
-        i = i + 1;
-    }
-    end
+// The records and the store that a caller lends: slot k owns store octets 1432k to 1432k+1431. Two slices, since hosts
+// lend two (trdp_receive_pd).
+#[derive(Drop)]
+pub struct Table<'a> {
+    pub slots: &'a mut [Subscription],
+    pub store: &'a mut [u8],
 }
 
-// A telegram that passed checks 2 to 7, or the clock, at every slot; one that it does not concern stays. Sizes that are wrong are
-// refused with 1.
-pub fn sweep(t: &mut [Subscription], store: &mut [u8], ev: Event, dataset: &[u8]) -> Swept
-    ensures { Sweeps ev dataset.now t.old store.old result t.new store.new }
-{
-    if subscription_decisions::is_unfit(t.len(), store.len()) {
-        return subscription_decisions::unswept();
+impl<'a> Table<'a> {
+    // Sizes that are wrong: 1.
+    fn judge_sizes(&self) -> Result<(), Refusal>
+        ensures { result ≡ first_of (size_checks (length self.now.slots.now) (length self.now.store.now)) }
+    {
+        subscription_decisions::judge_sizes(self.slots.len(), self.store.len())
     }
-    let mut c = subscription_decisions::begin();
-    let mut i = next_concerned(t, ev, 0);
-    while i < t.len() {
-        let m = subscription_decisions::step_at(t[i], c, ev, store, i, dataset);
-        t[i] = m.slot;
-        i = next_concerned(t, ev, i + 1);
-        c = m.tally;
+
+    // The event at slot k: its record, its part of the store, and the tally carried on.
+    fn step_at(&mut self, k: usize, event: &Event, dataset: &[u8], t: &mut Tally)
+        requires room { Room 1 t.old }
+        requires slot { k < length self.old.slots.now }
+        requires part { k * 1432 + 1432 ≤ length self.old.store.now }
+        ensures lends { Lends self.old self.new }
+        ensures slots { self.new.slots.now ≡ set self.old.slots.now k
+            (record_after event.now (length dataset.now) (get_or self.old.slots.now k free_record)) }
+        ensures store { self.new.store.now ≡ store_stepped event.now dataset.now
+            (get_or self.old.slots.now k free_record) k self.old.store.now }
+        ensures tally { t.new ≡ tallied event.now (length dataset.now)
+            (get_or self.old.slots.now k free_record) t.old }
+    {
+        let from = k * 1432;
+        event.step(
+            dataset,
+            &mut self.slots[k],
+            &mut self.store[from..from + 1432],
+            t,
+        );
     }
-    subscription_decisions::done(c)
+
+    // A telegram that passed checks 2 to 7, or the clock, at every slot; one that it does not concern stays. Or 1.
+    pub fn sweep(&mut self, event: &Event, dataset: &[u8]) -> Result<Tally, Refusal>
+        ensures lends { Lends self.old self.new }
+        ensures sweeps { Sweeps event.now dataset.now self.old.slots.now self.old.store.now result
+            self.new.slots.now self.new.store.now }
+    {
+        self.judge_sizes()?;
+        let mut t = Tally::default();
+        // By number: of what `iter_mut` and `chunks_exact_mut` leave, a proof knows the length and no more.
+        for k in 0..self.slots.len() {
+            if event.is_concerning(&self.slots[k]) {
+                self.step_at(k, event, dataset, &mut t);
+            }
+        }
+        Ok(t)
+    }
+
+    // The time check: every slot in use whose time is up is marked. Or 1.
+    pub fn time_check(&mut self, time: u64) -> Result<usize, Refusal>
+        ensures { Obeys (table.time_check time) self.old (told table.marked result) self.new }
+    {
+        let t = self.sweep(&Event::Clock(time), &[])?;
+        Ok(t.changed)
+    }
+
+    // Slot k becomes a record, and its part is zeroed.
+    #[tactic(auto, unfolding(subscription_table::specs::Slot::slot_octets))]
+    fn renew(&mut self, k: usize, r: Subscription)
+        requires slot { k < length self.old.slots.now }
+        requires part { k * 1432 + 1432 ≤ length self.old.store.now }
+        ensures lends { Lends self.old self.new }
+        ensures slots { self.new.slots.now ≡ set self.old.slots.now k r }
+        ensures store { self.new.store.now ≡ cleared k self.old.store.now }
+    {
+        self.slots[k] = r;
+        octets::clear_part(self.store, k * 1432, 1432);
+    }
+
+    // Slot k is there, and in use.
+    fn is_used(&self, k: usize) -> bool
+        ensures { result ≡ in_use (get_or self.now.slots.now k free_record) }
+    {
+        slot_at(self.slots, k).is_used()
+    }
+
+    // Unsubscribing: slot k is freed and its part zeroed, or 1, 10.
+    pub fn unsubscribe(&mut self, k: usize) -> Result<(), Refusal>
+        ensures { Obeys (table.unsubscribe k) self.old (told (λ _. table.freed) result) self.new }
+    {
+        self.judge_sizes()?;
+        if !self.is_used(k) {
+            return Err(Refusal::NoSlot);
+        }
+        self.renew(k, Subscription::free());
+        Ok(())
+    }
+
+    // The lowest free slot for a filter, or 11, 12, 13.
+    fn free_slot(&self, f: &Filter) -> Result<usize, Refusal>
+        ensures { result ≡ granting f.now self.now.slots.now }
+    {
+        if f.is_unsound() {
+            Err(Refusal::Range)
+        } else if is_held(self.slots, f) {
+            Err(Refusal::FilterInUse)
+        } else {
+            lowest_free(self.slots).ok_or(Refusal::NoFreeSlot)
+        }
+    }
+
+    // Subscribing: the lowest free slot is granted and its part zeroed, or 1, 11, 12, 13.
+    pub fn subscribe(
+        &mut self,
+        f: Filter,
+        timeout: u32,
+        behaviour: u8,
+        time: u64,
+    ) -> Result<usize, Refusal>
+        ensures { Obeys (table.subscribe (record { filter = f; timeout = timeout; behaviour = behaviour }) time)
+            self.old (told table.granted result) self.new }
+    {
+        self.judge_sizes()?;
+        let k = self.free_slot(&f)?;
+        self.renew(k, Subscription::granted(f, timeout, behaviour, time));
+        Ok(k)
+    }
+
+    // A PD datagram is judged, and goes to every slot that it matches; or 1 to 9.
+    fn deliver(&mut self, a: Arrival, datagram: &[u8]) -> Result<usize, Refusal>
+        ensures { Obeys (table.telegram a datagram.now) self.old (told table.delivered result) self.new }
+    {
+        self.judge_sizes()?;
+        let passed = subscription_decisions::judge(a, datagram)?;
+        let t = self.sweep(&Event::Telegram(passed.heard), passed.dataset)?;
+        subscription_decisions::delivered(t)
+    }
+
+    // A PD datagram arrives: it is delivered or refused with 1 to 9, and the statistics count it.
+    pub fn receive(
+        &mut self,
+        s: &mut Statistics,
+        a: Arrival,
+        datagram: &[u8],
+    ) -> Result<usize, Refusal>
+        ensures obeys { Obeys (table.telegram a datagram.now) self.old (told table.delivered result) self.new }
+        ensures counts { s.new ≡ recorded (told table.delivered result) s.old }
+    {
+        let answer = self.deliver(a, datagram);
+        count(s, &answer);
+        answer
+    }
 }
 
-// The time check: every slot in use whose time is up is marked. Sizes that are wrong are refused with 1.
-pub fn time_check(t: &mut [Subscription], store: &mut [u8], time: u64) -> Answer
-    ensures { Follows (table.time_check time) t.old store.old (meaning result) t.new store.new }
+// A slot in use has the filter.
+fn is_held(slots: &[Subscription], f: &Filter) -> bool
+    ensures { result ≡ list_any (record_holds f.now) slots.now }
 {
-    let s = sweep(t, store, subscription_decisions::clock(time), &[]);
-    subscription_decisions::marked(s)
+    slots.iter().any(|r| r.is_holding(f))
 }
 
-// Unsubscribing: slot k is freed and its part zeroed, or 1, 10.
-pub fn unsubscribe(t: &mut [Subscription], store: &mut [u8], k: usize) -> Answer
-    ensures { Follows (table.unsubscribe k) t.old store.old (meaning result) t.new store.new }
+// The lowest free slot.
+fn lowest_free(slots: &[Subscription]) -> Option<usize>
+    ensures { result ≡ position is_free slots.now }
 {
-    if subscription_decisions::is_away(t.len(), store.len(), k) {
-        return subscription_decisions::refusal(t.len(), store.len());
-    }
-    let m = subscription_decisions::release(t[k], store, k);
-    t[k] = m.slot;
-    m.answer
+    slots.iter().position(|r| !r.is_used())
 }
 
-// One pass over the records: is an equal filter in use, and which is the lowest free slot.
-pub fn search(t: &[Subscription], f: Filter) -> Found
-    ensures { result ≡ found_in f t.now }
+// The answer to a telegram is counted; refusal 1 is not.
+fn count(s: &mut Statistics, answer: &Result<usize, Refusal>)
+    ensures { s.new ≡ recorded (told table.delivered answer.now) s.old }
 {
-    let mut c = subscription_decisions::nothing();
-    let mut i: usize = 0;
-    while i < t.len() {
-        c = subscription_decisions::look(c, t[i], f, i);
-        i = i + 1;
+    match *answer {
+        Ok(_) => s.record(Family::Pd, 0),
+        Err(Refusal::Sizes) => {}
+        Err(r) => s.record(Family::Pd, r.into()),
     }
-    c
-}
-
-// Subscribing: the lowest free slot is granted and its part zeroed, or 1, 11, 12, 13.
-pub fn subscribe(
-    t: &mut [Subscription],
-    store: &mut [u8],
-    f: Filter,
-    timeout: u32,
-    behaviour: u8,
-    time: u64,
-) -> Answer
-    ensures { Follows (table.subscribe (record { filter = f; timeout = timeout; behaviour = behaviour }) time) t.old store.old (meaning result) t.new store.new }
-{
-    if subscription_decisions::is_unfit(t.len(), store.len()) {
-        return subscription_decisions::refusal(t.len(), store.len());
-    }
-    let s = search(t, f);
-    let x = subscription_decisions::decide(f, s);
-    if subscription_decisions::is_denied(x) {
-        return x;
-    }
-    let k = s.slot;
-    let r = subscription_decisions::prepare(f, timeout, behaviour, time, store, k);
-    t[k] = r;
-    x
-}
-
-// A PD datagram is judged, and goes to every slot that it matches; or 1 to 9.
-fn deliver(t: &mut [Subscription], store: &mut [u8], a: Arrival, datagram: &[u8]) -> Answer
-    ensures { Follows (table.telegram a datagram.now) t.old store.old (meaning result) t.new store.new }
-{
-    if subscription_decisions::is_unfit(t.len(), store.len()) {
-        return subscription_decisions::refusal(t.len(), store.len());
-    }
-    let v = subscription_decisions::judge(a, datagram);
-    if subscription_decisions::is_bad(v) {
-        return subscription_decisions::refuse(v);
-    }
-    let ev = subscription_decisions::hear(a, datagram);
-    let e = subscription_decisions::dataset_end(datagram);
-    let s = sweep(t, store, ev, &datagram[40..e]);
-    subscription_decisions::delivered(s)
-}
-
-// A PD datagram arrives: it is delivered or refused with 1 to 9, and the statistics count it.
-pub fn receive(
-    t: &mut [Subscription],
-    store: &mut [u8],
-    s: &mut Statistics,
-    a: Arrival,
-    datagram: &[u8],
-) -> Answer
-    ensures { Receives a datagram.now t.old store.old s.old (meaning result) t.new store.new s.new }
-{
-    let r = deliver(t, store, a, datagram);
-    if subscription_decisions::is_uncounted(r) {
-        return r;
-    }
-    let n = subscription_decisions::outcome_of(r);
-    // A delivered telegram leaves the counters of refusals as they are.
-    if n == 0 {
-        statistics::record(s, Family::Pd, 0);
-        return r;
-    }
-    statistics::record(s, Family::Pd, n);
-    r
 }
 
 // The record of slot k; a number too large is read as a free slot.
-pub fn slot_at(t: &[Subscription], k: usize) -> Subscription
-    ensures { result ≡ get_or t.now k free_record }
+pub fn slot_at(slots: &[Subscription], k: usize) -> Subscription
+    ensures { result ≡ get_or slots.now k free_record }
 {
-    if k < t.len() {
-        return t[k];
-    }
-    subscription::free()
+    slots.get(k).copied().unwrap_or(Subscription::free())
 }
 
-// Reading slot k: its state, and which octets it shows, or 1, 10.
-pub fn read(t: &[Subscription], store: &[u8], k: usize) -> Reading
-    ensures { Reads k t.now store.now result }
+// Reading slot k: its state, and which octets it shows, or 1, 10. A function, since shared slices make no `Table`.
+pub fn read(slots: &[Subscription], store: &[u8], k: usize) -> Result<View, Refusal>
+    ensures reads { Reads k slots.now store.now result }
+    ensures exact { result ≡ read_by (fits (length slots.now) (length store.now)) (get_or slots.now k free_record) }
 {
-    let r = slot_at(t, k);
-    subscription_decisions::read_record(t.len(), store.len(), r)
+    subscription_decisions::read_record(slots.len(), store.len(), &slot_at(slots, k))
 }
 
 // The octets that reading slot k shows, part of the store or of the substitute set; none where it refuses.
-pub fn show<'a>(t: &[Subscription], store: &'a [u8], k: usize, substitute: &'a [u8]) -> &'a [u8]
-    ensures { result.now ≡ octets_of (step (table.read k substitute.now) (record { records = t.now; store = store.now })).answer }
+pub fn show<'a>(slots: &[Subscription], store: &'a [u8], k: usize, substitute: &'a [u8]) -> &'a [u8]
+    ensures { result.now ≡ octets_of (step (table.read k substitute.now)
+        (record { records = slots.now; store = store.now })).answer }
 {
-    let r = slot_at(t, k);
-    subscription_decisions::show_record(t.len(), r, k, store, substitute)
+    subscription_decisions::show_record(slots.len(), &slot_at(slots, k), k, store, substitute)
 }

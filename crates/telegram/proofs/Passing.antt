@@ -12,6 +12,7 @@ use Rattle.fcs.specs.Fcs.{crc32}
 use Rattle.octets.specs.Octets.{little, part}
 use Rattle.refusal.specs.Refusal.{first_of}
 use Rattle.refusal.proofs.Order.{passes}
+use Rattle.std.specs.Prelude.{Ok}
 use Rattle.telegram.specs.declared.Common.{Common}
 use Rattle.telegram.specs.declared.Family.{Family}
 use Rattle.telegram.specs.Telegram.{header_size, dataset_limit, types, member, padded, common_of, checks, write_checks, telegram_of}
@@ -23,7 +24,7 @@ use Rattle.telegram.proofs.RoundTrip.{with_length, front-back, check-back}
 
 pub granted-passes : (f : Family) (c : Common) (front s : List ℕ) (sound_uris : Bool) (room : ℕ) → length front ≡ header_size f - 4
     → common_of (telegram_of front s) ≡ with_length c (length s) → Granted f c (length s) sound_uris room
-    → first_of (checks f (telegram_of front s)) ≡ 0
+    → first_of (checks f (telegram_of front s)) ≡ Ok tt
 granted-passes f c front s sound_uris room long e g =
     let t : List ℕ = telegram_of front s in
     let least : 40 ≤ header_size f = (bounds f).least in
@@ -49,7 +50,7 @@ granted-passes f c front s sound_uris room long e g =
     )
 
 pub sound-granted : (f : Family) (d : List ℕ) (n : ℕ) (sound_uris : Bool) (room : ℕ) → Sound f d → n ≡ (common_of d).dataset_length → sound_uris ≡ true → header_size f + padded n ≤ room
-    → first_of (write_checks f (common_of d) n sound_uris room) ≡ 0
+    → first_of (write_checks f (common_of d) n sound_uris room) ≡ Ok tt
 sound-granted f d n sound_uris room s e u h =
     passes (write_checks f (common_of d) n sound_uris room) (
       ap not (eq-eqb _ _ s.version),

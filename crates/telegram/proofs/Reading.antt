@@ -1,17 +1,19 @@
 -- What the checks of a datagram tell: all that a header that passes them is known to meet.
 -- Assumes nothing.
 -- a header that passes 2 to 5, and 6 as far as it tells
-use mathlib.Core.Path.{◌≡◌, refl, sym, ap, ◌∙◌}
+use mathlib.Core.Path.{◌≡◌, refl, sym, ◌∙◌}
 use mathlib.Core.List.{List, [], ◌∷◌}
 use mathlib.Core.Bool.{true}
-use Prim.Native.Nat.{ℕ, zero, suc, ◌+◌, ◌-◌, ◌/◌, ◌≤◌}
+use Prim.Native.Nat.{ℕ, ◌+◌, ◌-◌, ◌/◌, ◌≤◌}
 use native.Mathlib.Omega.{arith}
 use lib.ListN.{length, take}
 use borrow.Author.Tests.{ltb-false, eqb-true, not-false}
 use Rattle.fcs.specs.Fcs.{crc32}
 use Rattle.octets.specs.Octets.{little, part}
 use Rattle.refusal.specs.Refusal.{first_of}
-use Rattle.refusal.proofs.Order.{passed, or_else, first_of-append}
+use Rattle.refusal.proofs.Order.{passed, and_then, first_of-append}
+use Rattle.refusal.specs.declared.Refusal.{Refusal}
+use Rattle.std.specs.Prelude.{Ok, Err, Result}
 use Rattle.telegram.specs.declared.Family.{Family}
 use Rattle.telegram.specs.Telegram.{header_size, dataset_limit, types, member, padded, common_of, header_checks, length_check, checks}
 
@@ -22,9 +24,9 @@ pub record Sound (f : Family) (d : List ℕ) : Type 0 where
   pub type : member (common_of d).msg_type (types f) ≡ true
   pub limit : (common_of d).dataset_length ≤ dataset_limit f
 
-pub sound : (f : Family) (d : List ℕ) → first_of (header_checks f d) ≡ 0 → Sound f d
+pub sound : (f : Family) (d : List ℕ) → first_of (header_checks f d) ≡ Ok tt → Sound f d
 sound f d e =
-    let p = passed (header_checks f d) tt e in
+    let p = passed (header_checks f d) e in
     record {
       size = ltb-false _ _ p.0;
       check = eqb-true _ _ (not-false _ p.1.0);
@@ -34,25 +36,25 @@ sound f d e =
     }
 
 -- 2 to 6 are the header's checks, then the length
-in_order : (f : Family) (d : List ℕ) → first_of (checks f d) ≡ or_else (first_of (header_checks f d)) (first_of (length_check f d ∷ []))
-in_order f d = first_of-append (header_checks f d) (length_check f d ∷ []) tt
+pub in_order : (f : Family) (d : List ℕ)
+    → first_of (checks f d) ≡ and_then (first_of (header_checks f d)) (first_of (length_check f d ∷ []))
+in_order f d = first_of-append (header_checks f d) (length_check f d ∷ [])
 
 -- a header's refusal comes first
-pub header-first : (f : Family) (d : List ℕ) (r : ℕ) → r ≡ first_of (header_checks f d) → (r ≡ 0 → ⊥) → r ≡ first_of (checks f d)
-header-first f d r e h = go (first_of (header_checks f d)) e ∙ sym (in_order f d)
-  where
-    go : (v : ℕ) → r ≡ v → r ≡ or_else v (first_of (length_check f d ∷ []))
-    go zero q = absurd (h q)
-    go (suc v) q = q
+pub header-first : (f : Family) (d : List ℕ) (r : Refusal) → Err r ≡ first_of (header_checks f d) → Err r ≡ first_of (checks f d)
+header-first f d r e = rw (in_order f d, ← e) refl
 
 -- where the header passes, the datagram's length decides
-pub then-length : (f : Family) (d : List ℕ) → first_of (header_checks f d) ≡ 0 → first_of (checks f d) ≡ first_of (length_check f d ∷ [])
-then-length f d e = in_order f d ∙ ap (λ (v : ℕ). or_else v (first_of (length_check f d ∷ []))) e
+pub then-length : (f : Family) (d : List ℕ) → first_of (header_checks f d) ≡ Ok tt
+    → first_of (checks f d) ≡ first_of (length_check f d ∷ [])
+then-length f d e = rw (in_order f d, e) refl
 
 -- a datagram that passes 2 to 6
-pub whole : (f : Family) (d : List ℕ) → first_of (checks f d) ≡ 0 → (first_of (header_checks f d) ≡ 0) × (length d ≡ header_size f + padded (common_of d).dataset_length)
+pub whole : (f : Family) (d : List ℕ) → first_of (checks f d) ≡ Ok tt
+    → (first_of (header_checks f d) ≡ Ok tt) × (length d ≡ header_size f + padded (common_of d).dataset_length)
 whole f d e = go (first_of (header_checks f d)) refl (sym (in_order f d) ∙ e)
   where
-    go : (v : ℕ) → first_of (header_checks f d) ≡ v → or_else v (first_of (length_check f d ∷ [])) ≡ 0 → (first_of (header_checks f d) ≡ 0) × (length d ≡ header_size f + padded (common_of d).dataset_length)
-    go zero q z = (q, eqb-true _ _ (not-false _ (passed (length_check f d ∷ []) tt z).0))
-    go (suc v) q z = absurd (omega arith)
+    go : (v : Result (Unit {0}) Refusal) → first_of (header_checks f d) ≡ v → and_then v (first_of (length_check f d ∷ [])) ≡ Ok tt
+        → (first_of (header_checks f d) ≡ Ok tt) × (length d ≡ header_size f + padded (common_of d).dataset_length)
+    go (Ok v) q z = (q, eqb-true _ _ (not-false _ (passed (length_check f d ∷ []) z).0))
+    go (Err r) q z = grind arith

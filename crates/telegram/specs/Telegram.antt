@@ -1,13 +1,13 @@
 -- What PD and MD telegrams have in common: the first 24 octets, the checks 2 to 6, the writer's refusals, check field and padding.
-use Rattle.std.specs.Prelude.{ℕ, ◌+◌, ◌*◌, ◌-◌, ◌/◌, ◌≡◌, List, [], ◌∷◌, ◌++◌, Bool, false, not, ◌||◌, eqb, ltb, length, take, replicate}
-use Rattle.refusal.specs.Refusal.{Check, ◌when◌, answer, after, short, frame_check, version, msg_type, wrong_length, dataset_long, uri, target_short}
+use Rattle.std.specs.Prelude.{ℕ, ◌+◌, ◌*◌, ◌-◌, ◌/◌, ◌≡◌, List, [], ◌∷◌, ◌++◌, Bool, false, not, ◌||◌, eqb, ltb, length, take, replicate, Result}
+use Rattle.refusal.specs.Refusal.{Check, ◌when◌, answer, after}
+use Rattle.refusal.specs.declared.Refusal.{Refusal}
+use Rattle.refusal.specs.declared.Refusal.TheVariants as refusal
 use Rattle.octets.specs.Octets.{little, big, little_of, big_of, part, put}
 use Rattle.fcs.specs.Fcs.{crc32}
 use Rattle.telegram.specs.declared.Common.{Common}
 use Rattle.telegram.specs.declared.Family.{Family}
 use Rattle.telegram.specs.declared.Family.TheVariants.{Pd, Md}
-use Rattle.telegram.specs.declared.Written.{Written}
-use Rattle.telegram.specs.declared.Written.TheVariants.{Octets, Refused}
 
 -- PD header, 40 octets; MD header, 116 octets
 abbrev pub header_size : Family → ℕ
@@ -52,19 +52,19 @@ differs size d = not (eqb (crc32 (take (size - 4) d)) (little (part 4 (size - 4)
 -- 4, 5, and 6 as far as the header tells
 abbrev pub field_checks : Family → Common → List Check
 field_checks f c =
-    version when not (eqb (c.protocol_version / 256) 1)
-    ∷ msg_type when not (member c.msg_type (types f))
-    ∷ wrong_length when ltb (dataset_limit f) c.dataset_length
+    refusal.Version when not (eqb (c.protocol_version / 256) 1)
+    ∷ refusal.MsgType when not (member c.msg_type (types f))
+    ∷ refusal.Length when ltb (dataset_limit f) c.dataset_length
     ∷ []
 
 -- 2 to 5, and 6 as far as the header tells
 abbrev pub header_checks : Family → List ℕ → List Check
 header_checks f d =
-    short when ltb (length d) (header_size f) ∷ frame_check when differs (header_size f) d ∷ field_checks f (common_of d)
+    refusal.Short when ltb (length d) (header_size f) ∷ refusal.FrameCheck when differs (header_size f) d ∷ field_checks f (common_of d)
 
 -- 6: a datagram is exactly as long as header plus padded dataset
 abbrev pub length_check : Family → List ℕ → Check
-length_check f d = wrong_length when not (eqb (length d) (header_size f + padded (common_of d).dataset_length))
+length_check f d = refusal.Length when not (eqb (length d) (header_size f + padded (common_of d).dataset_length))
 
 -- 2 to 6, in that order
 abbrev pub checks : Family → List ℕ → List Check
@@ -77,11 +77,11 @@ dataset_of f d = part (common_of d).dataset_length (header_size f) d
 -- writing any telegram: 4, 5, 16, 20, 15
 abbrev pub write_checks : Family → Common → ℕ → Bool → ℕ → List Check
 write_checks f c n sound_uris room =
-    version when not (eqb (c.protocol_version / 256) 1)
-    ∷ msg_type when not (member c.msg_type (types f))
-    ∷ dataset_long when ltb (dataset_limit f) n
-    ∷ uri when not sound_uris
-    ∷ target_short when ltb room (header_size f + padded n)
+    refusal.Version when not (eqb (c.protocol_version / 256) 1)
+    ∷ refusal.MsgType when not (member c.msg_type (types f))
+    ∷ refusal.DatasetLong when ltb (dataset_limit f) n
+    ∷ refusal.Uri when not sound_uris
+    ∷ refusal.TargetShort when ltb room (header_size f + padded n)
     ∷ []
 
 -- the first 24 octets as they are written before a dataset of n octets
@@ -100,7 +100,7 @@ abbrev pub telegram_of : List ℕ → List ℕ → List ℕ
 telegram_of front dataset =
     front ++ little_of 4 (crc32 front) ++ dataset ++ replicate (padded (length dataset) - length dataset) 0
 
--- a telegram was written to a target, or refused; octets behind what is written stay
-pub record Wrote (refusal : ℕ) (telegram before : List ℕ) (written : Written) (target : List ℕ) : Type 0 where
-  pub answers : written ≡ answer Octets Refused refusal (length telegram)
-  pub leaves : target ≡ after refusal (put 0 telegram before) before
+-- a telegram was written to a target, its octets are the answer, or it was refused; octets behind what is written stay
+pub record Wrote (judged : Result (Unit {0}) Refusal) (telegram before : List ℕ) (written : Result ℕ Refusal) (target : List ℕ) : Type 0 where
+  pub answers : written ≡ answer judged (length telegram)
+  pub leaves : target ≡ after judged (put 0 telegram before) before

@@ -13,22 +13,19 @@ pub struct Timing {
 }
 
 // A span has passed since the start.
+#[tactic(auto, using(refusal::proofs::Tests::tests))]
 pub fn has_passed(start: u64, span: u32, now: u64) -> bool
     ensures { result ≡ passed start span now }
 {
-    if now < start {
-        return false;
-    }
-    span as u64 <= now - start
+    start <= now && span as u64 <= now - start
 }
 
-// The time is up.
-#[tactic(auto, using(refusal::proofs::Tests::tests))]
-pub fn is_up(t: Timing, now: u64) -> bool
-    ensures { result ≡ time_up t now }
-{
-    if t.timeout == 0 {
-        return false;
+impl Timing {
+    // The time is up.
+    #[tactic(auto, using(refusal::proofs::Tests::tests))]
+    pub fn is_up(self, now: u64) -> bool
+        ensures { result ≡ time_up self now }
+    {
+        self.timeout != 0 && has_passed(self.start, self.timeout, now)
     }
-    has_passed(t.start, t.timeout, now)
 }

@@ -17,32 +17,24 @@ pub struct TopoCounts {
 fn agree(counter: u32, local: u32) -> bool
     ensures { result ≡ agrees counter local }
 {
-    if counter == 0 {
-        return true;
-    }
-    counter == local
+    counter == 0 || counter == local
 }
 
-// opTrnTopoCnt is not 0 beside etbTopoCnt 0.
-#[tactic(auto, using(refusal::proofs::Tests::tests))]
-fn is_alone(telegram: TopoCounts) -> bool
-    ensures { result ≡ alone telegram }
-{
-    if telegram.etb_topo_cnt == 0 {
-        return telegram.op_trn_topo_cnt != 0;
+impl TopoCounts {
+    // opTrnTopoCnt is not 0 beside etbTopoCnt 0.
+    #[tactic(auto, using(refusal::proofs::Tests::tests))]
+    fn is_alone(self) -> bool
+        ensures { result ≡ alone self }
+    {
+        self.etb_topo_cnt == 0 && self.op_trn_topo_cnt != 0
     }
-    false
-}
 
-// A telegram's counters pass beside the local ones; else refusal 7.
-pub fn pass(telegram: TopoCounts, local: TopoCounts) -> bool
-    ensures { result ≡ passes telegram local }
-{
-    if is_alone(telegram) {
-        return false;
+    // A telegram's counters pass beside the local ones; else refusal 7.
+    pub fn pass(self, local: TopoCounts) -> bool
+        ensures { result ≡ passes self local }
+    {
+        !self.is_alone()
+            && agree(self.etb_topo_cnt, local.etb_topo_cnt)
+            && agree(self.op_trn_topo_cnt, local.op_trn_topo_cnt)
     }
-    if agree(telegram.etb_topo_cnt, local.etb_topo_cnt) {
-        return agree(telegram.op_trn_topo_cnt, local.op_trn_topo_cnt);
-    }
-    false
 }

@@ -1,3 +1,1 @@
-pub mod Answers
-pub mod Following
-pub mod Messages
+pub mod Reading

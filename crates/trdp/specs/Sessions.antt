@@ -1,6 +1,7 @@
--- The calls on listeners and sessions, over the 1280 octets that a host lends: the tables that the octets mean after a call, and its answer, are those of the rules.
+-- The calls on listeners and sessions, over the 1280 octets that a host lends: the tables that the octets mean after a
+-- call, and its answer, are those of the rules.
 use Rattle.std.specs.Prelude.{ℕ, ◌≡◌, List, cond, ltb, get_or}
-use Rattle.refusal.specs.Refusal.{no_slot}
+use Rattle.refusal.specs.declared.Refusal.TheVariants as refusal
 use Rattle.telegram.specs.declared.Family.TheVariants.{Md}
 use Rattle.arrival.specs.declared.Arrival.{Arrival}
 use Rattle.statistics.specs.Statistics.{added}
@@ -29,7 +30,8 @@ pub record Arrives (a : Arrival) (datagram octets : List ℕ) (r : MdOutcome) (o
   pub leaves : octets' ≡ octets_after (telegram a datagram) octets
 
 -- .. and the statistics, which count its refusal number, or 0 where it is delivered
-pub record Receives (a : Arrival) (datagram octets : List ℕ) (statistics : Statistics) (r : MdOutcome) (octets' : List ℕ) (statistics' : Statistics) : Type 0 where
+pub record Receives (a : Arrival) (datagram octets : List ℕ) (statistics : Statistics)
+    (r : MdOutcome) (octets' : List ℕ) (statistics' : Statistics) : Type 0 where
   pub arrives : Arrives a datagram octets r octets'
   pub counts : statistics' ≡ added Md r.refusal statistics
 
@@ -41,4 +43,5 @@ pub record Checks (time : ℕ) (octets : List ℕ) (r : Codes) (octets' : List �
 
 -- session k; 10 where there is no such slot
 abbrev pub session_seen : List ℕ → ℕ → SessionSeen
-session_seen octets k = cond (ltb k 16) (seen (get_or (tables_of octets).sessions k free_session)) (not_seen no_slot)
+session_seen octets k =
+    cond (ltb k 16) (seen (get_or (tables_of octets).sessions k free_session)) (not_seen refusal.NoSlot)

@@ -1,7 +1,8 @@
 // The calls of the stack for a host in C or Rust: every answer is a struct of numbers, whose refusal 0 means granted.
+// A table and its store are two arguments, and the two ways to convert are two calls, since C knows them so.
 #![tactic(auto)]
 
-ghost use Rattle.std.specs.Prelude.{◌≡◌, ◌<◌, length};
+ghost use Rattle.std.specs.Prelude.{◌≡◌, length};
 ghost use Rattle.refusal.specs.Refusal.{first_of};
 ghost use Rattle.fcs.specs.Fcs.{crc32};
 ghost use Rattle.pd.specs.Pd as pd;
@@ -22,13 +23,14 @@ use address::SenderRange;
 use arrival::Arrival;
 use boundary::{Codes, MdDatagram, MdOutcome, Outcome, PdDatagram, Sending, SessionSeen, Shown};
 use dataset::Form;
-use md::{MdHeader, MdTaken};
+use md::{MdFields, MdHeader};
+use packed::{OCTETS, SLOTS};
 use pd::PdHeader;
 use publication::Publication;
-use session::Session;
+use refusal::Refusal;
 use statistics::Statistics;
 use subscription::{Filter, Subscription};
-use subscription_decisions::Reading;
+use subscriptions::Table;
 use telegram::Family;
 
 // The frame check of octets.
@@ -44,15 +46,16 @@ pub extern "C" fn trdp_frame_check(s: &[u8]) -> u32
 pub extern "C" fn trdp_take_pd(datagram: &[u8]) -> PdDatagram
     ensures { result ≡ of_pd_taken (pd.take_pd datagram.now) }
 {
-    boundary::of_pd_taken(pd::take_pd(datagram))
+    telegram::take::<PdHeader>(datagram).into()
 }
 
 // A PD telegram written: how many octets, or the first refusal of 4, 5, 16 and 15, which leaves the target as it was.
 #[unsafe(no_mangle)]
 pub extern "C" fn trdp_write_pd(h: PdHeader, dataset: &[u8], target: &mut [u8]) -> Outcome
-    ensures { Writes (first_of (pd.write_checks_pd h (length dataset.now) (length target.old))) (pd.frame_of h dataset.now) target.old result target.new }
+    ensures { Writes (first_of (pd.write_checks_pd h (length dataset.now) (length target.old)))
+        (pd.frame_of h dataset.now) target.old result target.new }
 {
-    boundary::of_written(pd::write_pd(h, dataset, target))
+    pd::write_pd(h, dataset, target).into()
 }
 
 // An MD datagram taken apart: its header, identifier and URI fields, or the first refusal of 2 to 6.
@@ -60,23 +63,11 @@ pub extern "C" fn trdp_write_pd(h: PdHeader, dataset: &[u8], target: &mut [u8]) 
 pub extern "C" fn trdp_take_md(datagram: &[u8]) -> MdDatagram
     ensures { result ≡ of_md_taken datagram.now (md.take_md datagram.now) }
 {
-    let taken = md::take_md(datagram);
-    let MdTaken::Header(h) = taken else {
-        return boundary::refused_md(md::refusal(taken));
-    };
-    let id = md::session_id(datagram);
-    let source = packed::thirty_two(datagram, 48);
-    let destination = packed::thirty_two(datagram, 80);
-    MdDatagram {
-        refusal: 0,
-        header: h,
-        session_id: id,
-        source_uri: source,
-        destination_uri: destination,
-    }
+    MdDatagram::take(datagram)
 }
 
-// An MD telegram written: how many octets, or the first refusal of 4, 5, 16, 20 and 15, which leaves the target as it was.
+// An MD telegram written: how many octets, or the first refusal of 4, 5, 16, 20 and 15, which leaves the target as it
+// was.
 #[unsafe(no_mangle)]
 pub extern "C" fn trdp_write_md(
     h: MdHeader,
@@ -86,9 +77,16 @@ pub extern "C" fn trdp_write_md(
     dataset: &[u8],
     target: &mut [u8],
 ) -> Outcome
-    ensures { Writes (first_of (md.write_checks_md h source.now destination.now (length dataset.now) (length target.old))) (md.frame_of h id.now source.now destination.now dataset.now) target.old result target.new }
+    ensures { Writes (first_of (md.write_checks_md h source.now destination.now (length dataset.now)
+        (length target.old))) (md.frame_of h id.now source.now destination.now dataset.now) target.old result target.new }
 {
-    boundary::of_written(md::write_md(h, id, source, destination, dataset, target))
+    let m = MdFields {
+        header: h,
+        session_id: id,
+        source_uri: source,
+        destination_uri: destination,
+    };
+    md::write_md(&m, dataset, target).into()
 }
 
 // A publication that has sent nothing yet.
@@ -96,31 +94,41 @@ pub extern "C" fn trdp_write_md(
 pub extern "C" fn trdp_publish(h: PdHeader, cycle: u32) -> Publication
     ensures { result ≡ made_of h cycle }
 {
-    publication::publish(h, cycle)
+    Publication::new(h, cycle)
 }
 
-// A publication sent: written into the target, or refused with 14 or the writer's number, which leaves target and record as they were.
+// A publication sent: written into the target, or refused with 14 or the writer's number, which leaves target and record
+// as they were.
 #[unsafe(no_mangle)]
-pub extern "C" fn trdp_send(p: Publication, time: u64, dataset: &[u8], target: &mut [u8]) -> Sending
-    ensures { SendsOut (first_of (send_checks p time (length dataset.now) (length target.old))) p time dataset.now target.old result target.new }
+pub extern "C" fn trdp_send(
+    mut p: Publication,
+    time: u64,
+    dataset: &[u8],
+    target: &mut [u8],
+) -> Sending
+    ensures { SendsOut (first_of (send_checks p time (length dataset.now) (length target.old)))
+        p time dataset.now target.old result target.new }
 {
-    boundary::of_sent(publication::send(p, time, dataset, target))
+    let r = p.send(time, dataset, target);
+    Sending::new(r, p)
 }
 
-// The dataset of an id from the wire's form to the host's: how many octets, or 21 to 25, which leaves the target as it was.
+// The dataset of an id from the wire's form to the host's: how many octets, or 21 to 25, which leaves the target as it
+// was.
 #[unsafe(no_mangle)]
 pub extern "C" fn trdp_to_host(run: &[u32], id: u32, source: &[u8], target: &mut [u8]) -> Outcome
     ensures { ConvertsTo (whole_of form.Wire run.now id source.now) (length source.now) target.old result target.new }
 {
-    boundary::of_converted(dataset::convert(Form::Wire, run, id, source, target))
+    dataset::convert(Form::Wire, run, id, source, target).into()
 }
 
-// The dataset of an id from the host's form to the wire's: how many octets, or 21 to 25, which leaves the target as it was.
+// The dataset of an id from the host's form to the wire's: how many octets, or 21 to 25, which leaves the target as it
+// was.
 #[unsafe(no_mangle)]
 pub extern "C" fn trdp_to_wire(run: &[u32], id: u32, source: &[u8], target: &mut [u8]) -> Outcome
     ensures { ConvertsTo (whole_of form.Host run.now id source.now) (length source.now) target.old result target.new }
 {
-    boundary::of_converted(dataset::convert(Form::Host, run, id, source, target))
+    dataset::convert(Form::Host, run, id, source, target).into()
 }
 
 // Statistics that have counted nothing.
@@ -128,7 +136,7 @@ pub extern "C" fn trdp_to_wire(run: &[u32], id: u32, source: &[u8], target: &mut
 pub extern "C" fn trdp_no_statistics() -> Statistics
     ensures { result ≡ no_statistics }
 {
-    statistics::none()
+    Statistics::none()
 }
 
 // A slot that is free.
@@ -136,7 +144,7 @@ pub extern "C" fn trdp_no_statistics() -> Statistics
 pub extern "C" fn trdp_no_subscription() -> Subscription
     ensures { result ≡ free_record }
 {
-    subscription::free()
+    Subscription::free()
 }
 
 // Subscribing: the lowest free slot, or 1, 11, 12, 13.
@@ -149,10 +157,12 @@ pub extern "C" fn trdp_subscribe(
     behaviour: u8,
     time: u64,
 ) -> Outcome
-    ensures { Follows (table.subscribe (record { filter = f; timeout = timeout; behaviour = behaviour }) time) t.old store.old result t.new store.new }
+    ensures { Follows (table.subscribe (record { filter = f; timeout = timeout; behaviour = behaviour }) time)
+        t.old store.old result t.new store.new }
 {
-    let a = subscriptions::subscribe(t, store, f, timeout, behaviour, time);
-    boundary::of_answer(a)
+    Table { slots: t, store }
+        .subscribe(f, timeout, behaviour, time)
+        .into()
 }
 
 // Unsubscribing: slot k is freed and its part zeroed, or 1, 10.
@@ -160,8 +170,7 @@ pub extern "C" fn trdp_subscribe(
 pub extern "C" fn trdp_unsubscribe(t: &mut [Subscription], store: &mut [u8], k: usize) -> Outcome
     ensures { Follows (table.unsubscribe k) t.old store.old result t.new store.new }
 {
-    let a = subscriptions::unsubscribe(t, store, k);
-    boundary::of_answer(a)
+    Table { slots: t, store }.unsubscribe(k).into()
 }
 
 // A PD datagram arrives: how many slots took it, or 1 to 9; the statistics count it.
@@ -175,8 +184,7 @@ pub extern "C" fn trdp_receive_pd(
 ) -> Outcome
     ensures { Receives a datagram.now t.old store.old s.old result t.new store.new s.new }
 {
-    let x = subscriptions::receive(t, store, s, a, datagram);
-    boundary::of_answer(x)
+    Table { slots: t, store }.receive(s, a, datagram).into()
 }
 
 // The time check: how many slots were marked, or 1.
@@ -188,8 +196,7 @@ pub extern "C" fn trdp_check_subscriptions(
 ) -> Outcome
     ensures { Follows (table.time_check time) t.old store.old result t.new store.new }
 {
-    let a = subscriptions::time_check(t, store, time);
-    boundary::of_answer(a)
+    Table { slots: t, store }.time_check(time).into()
 }
 
 // Reading slot k: its state and which octets it shows, or 1, 10.
@@ -197,54 +204,47 @@ pub extern "C" fn trdp_check_subscriptions(
 pub extern "C" fn trdp_read(t: &[Subscription], store: &[u8], k: usize) -> Shown
     ensures { Reads k t.now store.now result }
 {
-    let r = subscriptions::slot_at(t, k);
-    let x = subscription_decisions::read_record(t.len(), store.len(), r);
-    boundary::of_reading(x, k)
+    Shown::of_slot(k, subscriptions::read(t, store, k))
 }
 
 // Adding a listener: its slot, or 11, 20, 12, 13.
 #[unsafe(no_mangle)]
 pub extern "C" fn trdp_listen(
-    tables: &mut [u8; 1280],
+    tables: &mut [u8; OCTETS],
     com_id: u32,
     senders: SenderRange,
     uri: &[u8; 32],
 ) -> Outcome
     ensures { sessions.Follows (messages.listen com_id senders uri.now) tables.old result tables.new }
 {
-    let u = packed::thirty_two(uri, 0);
-    let a = sessions::listen(tables, com_id, senders, u);
-    boundary::of_told(a)
+    sessions::listen(tables, com_id, senders, *uri).into()
 }
 
 // Removing a listener: 10.
 #[unsafe(no_mangle)]
-pub extern "C" fn trdp_unlisten(tables: &mut [u8; 1280], k: usize) -> Outcome
+pub extern "C" fn trdp_unlisten(tables: &mut [u8; OCTETS], k: usize) -> Outcome
     ensures { sessions.Follows (messages.unlisten k) tables.old result tables.new }
 {
-    let a = sessions::unlisten(tables, k);
-    boundary::of_told(a)
+    sessions::unlisten(tables, k).into()
 }
 
 // Calling: the session's slot, or 17, 18.
 #[unsafe(no_mangle)]
 pub extern "C" fn trdp_call(
-    tables: &mut [u8; 1280],
+    tables: &mut [u8; OCTETS],
     id: &[u8; 16],
     timeout: u32,
     time: u64,
 ) -> Outcome
     ensures { sessions.Follows (messages.calling id.now timeout time) tables.old result tables.new }
 {
-    let i = octets::sixteen(id, 0);
-    let a = sessions::call(tables, i, timeout, time);
-    boundary::of_told(a)
+    sessions::call(tables, *id, timeout, time).into()
 }
 
 // The user's reply: 5, 10, 19.
 #[unsafe(no_mangle)]
 pub extern "C" fn trdp_reply(
-    tables: &mut [u8; 1280],
+    tables: &mut [u8; OCTETS],
     k: usize,
     msg_type: u16,
     timeout: u32,
@@ -252,65 +252,50 @@ pub extern "C" fn trdp_reply(
 ) -> Outcome
     ensures { sessions.Follows (messages.reply k msg_type timeout time) tables.old result tables.new }
 {
-    let a = sessions::reply(tables, k, msg_type, timeout, time);
-    boundary::of_told(a)
+    sessions::reply(tables, k, msg_type, timeout, time).into()
 }
 
 // The user's confirm: 10, 19.
 #[unsafe(no_mangle)]
-pub extern "C" fn trdp_confirm(tables: &mut [u8; 1280], k: usize) -> Outcome
+pub extern "C" fn trdp_confirm(tables: &mut [u8; OCTETS], k: usize) -> Outcome
     ensures { sessions.Follows (messages.confirm k) tables.old result tables.new }
 {
-    let a = sessions::confirm(tables, k);
-    boundary::of_told(a)
+    sessions::confirm(tables, k).into()
 }
 
 // The time check of the sessions: a code for each slot.
 #[unsafe(no_mangle)]
-pub extern "C" fn trdp_check_sessions(tables: &mut [u8; 1280], time: u64) -> Codes
+pub extern "C" fn trdp_check_sessions(tables: &mut [u8; OCTETS], time: u64) -> Codes
     ensures { sessions.Checks time tables.old result tables.new }
 {
-    let codes = sessions::time_check(tables, time);
-    Codes { codes: codes }
+    Codes {
+        codes: sessions::time_check(tables, time),
+    }
 }
 
 // Session k as it stands, or 10.
 #[unsafe(no_mangle)]
-pub extern "C" fn trdp_session(tables: &[u8; 1280], k: usize) -> SessionSeen
+pub extern "C" fn trdp_session(tables: &[u8; OCTETS], k: usize) -> SessionSeen
     ensures { result ≡ sessions.session_seen tables.now k }
 {
-    if k < 16 {
-        let x = packed_slots::session_at(tables, k);
-        return boundary::of_session(x);
+    if k < SLOTS {
+        Ok(packed_slots::session_at(tables, k)).into()
+    } else {
+        Err(Refusal::NoSlot).into()
     }
-    SessionSeen {
-        refusal: refusal::NO_SLOT,
-        state: 0,
-        id: [0u8; 16],
-        start: 0,
-        timeout: 0,
-    }
-}
-
-// An MD datagram arrives at the tables.
-fn arrive_md(tables: &mut [u8; 1280], a: Arrival, datagram: &[u8]) -> MdOutcome
-    ensures { sessions.Arrives a datagram.now tables.old result tables.new }
-{
-    let answer = messages::arrive(tables, a, datagram);
-    boundary::of_received(answer)
 }
 
 // An MD datagram arrives: what becomes of it, or 2 to 8, 17 to 20; the statistics count it.
 #[unsafe(no_mangle)]
 pub extern "C" fn trdp_receive_md(
-    tables: &mut [u8; 1280],
+    tables: &mut [u8; OCTETS],
     s: &mut Statistics,
     a: Arrival,
     datagram: &[u8],
 ) -> MdOutcome
     ensures { sessions.Receives a datagram.now tables.old s.old result tables.new s.new }
 {
-    let o = arrive_md(tables, a, datagram);
-    statistics::record(s, Family::Md, o.refusal);
+    let o = MdOutcome::from(messages::arrive(tables, a, datagram));
+    s.record(Family::Md, o.refusal);
     o
 }

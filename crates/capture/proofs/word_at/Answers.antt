@@ -10,12 +10,6 @@ use Rattle.capture.specs.Frame.{number_at}
 use Rattle.capture.proofs.Frames.{word_fits}
 use Rattle.capture.proofs.word_at.Goals as goal
 
-pub number-requires : goal.number-requires
-number-requires c =
-    let a = c.args in
-    let m : a.at + 8 - a.at ≡ 8 = add-sub_cancel_left a.at 8 in
-    rw m (record { s_len_bound = simp length-take (omega arith); s_value = c.requires.s_value })
-
 pub overflow_cast-result : goal.overflow_cast-result
 overflow_cast-result c =
     let a = c.args in
@@ -24,9 +18,3 @@ overflow_cast-result c =
     c.number.ensures ∙ ap (λ (k : ℕ). number 0 (take k (drop a.at a.s.now))) m in
     let l : length (part 8 a.at a.s.now) ≤ 8 = simp length-take (omega arith) in
     omega (arith, word_fits (part 8 a.at a.s.now) c.requires.s_value l)
-
-pub returns : goal.returns
-returns c =
-    let a = c.args in
-    let m : a.at + 8 - a.at ≡ 8 = add-sub_cancel_left a.at 8 in
-    c.number.ensures ∙ ap (λ (k : ℕ). number 0 (take k (drop a.at a.s.now))) m

@@ -1,17 +1,15 @@
-use mathlib.Core.List.{List}
-use mathlib.Core.Path.{sym, ◌∙◌}
-use Prim.Native.Nat.{ℕ}
-use borrow.Author.Rules.{rules}
-use Rattle.fcs.proofs.Turns.{turned-one, turned-all}
+-- The octets are folded as the register is.
+use Rattle.std.proofs.Common.{ℕ, ◌∙◌, rules, tests}
+use Rattle.std.proofs.lemmas.Iterator.{YieldsList-from_slice}
+use Rattle.std.proofs.lemmas.Iterator.Consumers.{fold_from_yields_List}
+use lib.Bits.{bit_xor}
+use Rattle.fcs_steps.specs.Steps.{bits}
+use Rattle.fcs.proofs.Joined.{register-fold}
 use Rattle.fcs.proofs.by_ones.Goals as goal
-
-pub loop-i-preserved : goal.loop-i-preserved
-loop-i-preserved c =
-    let l = c.loop-i in
-    let s : List ℕ = c.args.s.now in
-    (search rules, l.invariant.1 ∙ turned-one s l.i l.c (search rules) c.wide.ensures c.step-c.ensures)
 
 pub returns : goal.returns
 returns c =
-    let l = c.loop-i in
-    sym (l.invariant.1 ∙ turned-all c.args.s.now l.i l.c (search rules))
+    let a = c.args in
+    fold_from_yields_List _ (λ (c x : ℕ). bits 8 (bit_xor c x)) a.begun c.fold.result c.fold.ensures.ran
+    (YieldsList-from_slice a.s.now cc) (λ d x r q k. search (rules, tests))
+    ∙ register-fold a.begun a.s.now

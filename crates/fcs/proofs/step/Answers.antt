@@ -1,6 +1,5 @@
 -- Eight steps are the entries of the two half octets of the low octet, and the rest moved down.
-use mathlib.Core.Path.{ap₂, ◌∙◌}
-use Prim.Native.Nat.{ℕ, ◌/◌}
+use Rattle.std.proofs.Common.{ℕ, ◌/◌, ◌∙◌, ap₂}
 use lib.Bits.{bit_xor}
 use Rattle.fcs.proofs.Halves.{by_two}
 use Rattle.fcs.proofs.step.Goals as goal

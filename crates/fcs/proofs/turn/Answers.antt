@@ -1,11 +1,8 @@
--- An entry for each of the eight half octets, joined by exclusive or, is 64 steps of the whole number.
-use Prim.Native.Nat.{◌<◌, ◌^◌}
-use Rattle.fcs.proofs.Halves.{looks}
-use borrow.Author.Rules.{rules}
+use Rattle.fcs.proofs.Halves.{no_more, one_more}
 use Rattle.fcs.proofs.turn.Goals as goal
 
-pub returns : goal.returns
-returns c =
-    let a = c.args in
-    let h : a.x < 2 ^ 32 = search rules in
-    cc (looks 7 a.j a.x h)
+pub loop-k-init : goal.loop-k-init
+loop-k-init c = no_more c.args.j c.args.x
+
+pub loop-k-preserved : goal.loop-k-preserved
+loop-k-preserved c = cc (one_more c.loop-k.k c.args.j c.args.x)

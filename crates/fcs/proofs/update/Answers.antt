@@ -1,29 +1,17 @@
--- The whole eights and the octets behind them are two portions of s, and the register runs over one after the other.
-use mathlib.Core.List.{List}
-use mathlib.Core.Path.{◌≡◌, sym, ap₂, ◌∙◌}
-use Prim.Native.Nat.{ℕ, ◌*◌, ◌/◌}
-use native.Mathlib.Omega.{arith}
-use lib.ListN.{length, take}
-use lib.Seq.{length-take-le}
-use Rattle.fcs.specs.Fcs.{register}
-use Rattle.fcs.proofs.Joined.{register-split, part-behind}
+use Rattle.std.proofs.Common.{ℕ, List, [], ◌/◌, ◌<◌, length, get_or, ap, ◌∙◌, arith}
+use Rattle.octets.specs.Octets.{Octets}
+use Rattle.fcs.proofs.Joined.{chunk_at}
+use Rattle.fcs.proofs.Turns.{turned-chunk}
 use Rattle.fcs.proofs.update.Goals as goal
 
--- the whole eights are as many octets as their number says
-fronted : (s : List ℕ) → length (take (length s / 8 * 8) s) ≡ length s / 8 * 8
-fronted s = length-take-le (length s / 8 * 8) s (omega arith)
-
-pub slice_bounds-by_eights-end : goal.slice_bounds-by_eights-end
-slice_bounds-by_eights-end c = omega (arith, fronted c.args.s.now)
-
-pub by_eights-c-requires : goal.by_eights-c-requires
-by_eights-c-requires c = omega (arith, fronted c.args.s.now)
-
-pub returns : goal.returns
-returns c =
-    let a = c.args in
-    let n = length a.s.now / 8 * 8 in
-    let s : List ℕ = a.s.now in
-    c.by_four.ensures
-    ∙ ap₂ register c.by_eights-c.ensures (part-behind n s)
-    ∙ sym (register-split a.begun n s)
+pub loop-eight-preserved : goal.loop-eight-preserved
+loop-eight-preserved c =
+    let l = c.loop-eight in
+    let s : List ℕ = c.args.s.now in
+    let k : ℕ = length s / 8 in
+    let i : ℕ = l.eight-index in
+    let h : i < k = omega (arith, c.as_chunks.ensures.front_len, c.loop-eight-test.true) in
+    let o : Octets s = record { below = λ k. omega (arith, c.type_inv.s k) } in
+    let chunk = ap (λ (es : List (List ℕ)). get_or es i []) c.as_chunks.ensures.front ∙ chunk_at 8 k i s h in
+    l.invariant
+    ∙ turned-chunk s o i l.c (omega arith) chunk c.little-u.ensures c.little-v.ensures c.turn.ensures c.turn-in-loop-eight.ensures

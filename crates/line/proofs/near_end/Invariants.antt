@@ -1,12 +1,11 @@
--- The loop's invariant: the place lies between the first and the block's end, and no LF between.
-use mathlib.Core.Path.{◌≡◌}
-use Prim.Native.Nat.{◌≤◌, ◌-◌}
-use lib.ListN.{length}
-use Rattle.line.specs.Lines.{first_end}
+-- What is left stands behind octets without LF.
+use Rattle.std.proofs.Common.{◌≡◌, ◌+◌, ◌-◌, ◌≤◌, length}
+use Rattle.line.specs.Lines.{until_end}
 use Rattle.line.proofs.near_end.Given as goal
 
-abbrev pub invariant-loop-i : goal.invariant-loop-i
-invariant-loop-i l = ((l.from ≤ l.i) × (l.i ≤ length l.block)) × (first_end l.block l.i ≡ first_end l.block l.from)
+abbrev pub invariant-loop-part : goal.invariant-loop-part
+invariant-loop-part l =
+    (length l.rest ≤ length l.block) × (length l.block - length l.rest + until_end l.rest ≡ until_end l.block)
 
-abbrev pub decreases-loop-i : goal.decreases-loop-i
-decreases-loop-i l = length l.block - l.i
+abbrev pub decreases-loop-part : goal.decreases-loop-part
+decreases-loop-part l = length l.rest

@@ -7,7 +7,8 @@ use lib.ListN.{length}
 use Rattle.octets.specs.Octets.{little_of, put}
 use Rattle.octets.proofs.Puts.{none, next}
 use Rattle.timing.specs.declared.Timing.{Timing}
-use Rattle.packed.specs.Packed.{state_number, session_octets}
+use Rattle.packed.specs.Packed.{session_octets}
+use Rattle.session.specs.Session.{state_number}
 use Rattle.packed.proofs.Records.{put_all, laid, session-back}
 use borrow.Author.Rules.{rules}
 use Rattle.packed.proofs.pack_session.Goals as goal
@@ -19,15 +20,15 @@ pub returns : goal.returns
 returns c =
     let a = c.args in
     let u : length a.x.id ≡ 16 = search rules in
-    let T = c.timing_of-t.result in
+    let T = c.timing-timing.result in
     let s : T.start < 256 ^ 8 = search rules in
     let o : T.timeout < 256 ^ 4 = search rules in
-    let e = c.timing_of-t.ensures in
+    let e = c.timing-timing.ensures in
     let w1 =
     next (none a.s.now) (little_of 4 (state_number a.x.state)) 4 refl
-    (c.put_little4.ensures ∙ ap (λ (n : ℕ). put 0 (little_of 4 n) a.s.now) c.state_number-n.ensures) in
-    let w2 = next w1 (little_of 4 T.timeout) 8 refl c.put_little4-2.ensures in
-    let w3 = next w2 (little_of 8 T.start) 16 refl c.put_little8.ensures in
+    (c.put_little.ensures ∙ ap (λ (n : ℕ). put 0 (little_of 4 n) a.s.now) (c.from.ensures ∙ c.number.ensures)) in
+    let w2 = next w1 (little_of 4 T.timeout) 8 refl c.put_little-2.ensures in
+    let w3 = next w2 (little_of 8 T.start) 16 refl c.put_little-3.ensures in
     let w4 = next w3 a.x.id 32 (ap (λ (n : ℕ). 16 + n) u) c.copy_into.ensures in
     let z : laid (state_number a.x.state) T a.x.id ≡ session_octets a.x =
     ap (λ (t : Timing). laid (state_number a.x.state) t a.x.id) e in

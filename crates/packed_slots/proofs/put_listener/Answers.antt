@@ -3,13 +3,13 @@ use native.Mathlib.Omega.{arith}
 use Rattle.packed_slots.proofs.Places.{listener-put, listener-none}
 use Rattle.packed_slots.proofs.put_listener.Goals as goal
 
-pub returns-then-k-lt16 : goal.returns-then-k-lt16
-returns-then-k-lt16 c =
+pub returns-then-k-lt-SLOTS : goal.returns-then-k-lt-SLOTS
+returns-then-k-lt-SLOTS c =
     let a = c.args in
     let e = c.pack_listener.ensures in
-    listener-put a.k a.octets.now c.requires a.l _ c.if-k-lt16.true e.written e.long e.back
+    listener-put a.k a.octets.now c.told-octets a.l _ c.if-k-lt-SLOTS.true e.written e.long e.back
 
-pub returns-else-k-lt16 : goal.returns-else-k-lt16
-returns-else-k-lt16 c =
+pub returns-else-k-lt-SLOTS : goal.returns-else-k-lt-SLOTS
+returns-else-k-lt-SLOTS c =
     let a = c.args in
-    listener-none a.k a.octets.now c.requires a.l (omega arith)
+    listener-none a.k a.octets.now c.told-octets a.l (omega arith)

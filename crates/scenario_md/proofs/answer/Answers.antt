@@ -13,4 +13,4 @@ returns-then-is_verb c =
 pub returns : goal.returns
 unfolding asked_of
 returns c =
-    answered-as (uncounted c.args.s.now _ _ _ _ _ _ c.user.ensures) (passed _ _ _ (sym c.is_verb.ensures ∙ c.if-is_verb.false) refl)
+    answered-as (uncounted c.args.s.now _ _ _ _ _ c.user.ensures) (passed _ _ _ (sym c.is_verb.ensures ∙ c.if-is_verb.false) refl)

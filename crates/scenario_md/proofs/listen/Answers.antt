@@ -1,10 +1,12 @@
 -- The fields are read one after the other; the line ends behind the last, or it asks nothing.
 use mathlib.Core.Path.{◌≡◌, refl, sym, ◌∙◌}
 use mathlib.Core.Bool.{true, false}
+use Rattle.answer.specs.Answer.{ascii}
+use Rattle.session_table.specs.Table.{listening}
 use Rattle.line.specs.Line.{read_to, ends}
 use Rattle.line.proofs.Fields.{end_read, ended, first-number, number_read, octets-in, octets-read, unended}
 use Rattle.scenario_md.specs.Lines.{listen_asked}
-use Rattle.scenario_md.proofs.Served.{asks, served, unserved, same-listen}
+use Rattle.scenario_md.proofs.Served.{asks, given, served, unserved, same-listen}
 use Rattle.scenario_md.proofs.listen.Goals as goal
 
 pub returns-then-is_end : goal.returns-then-is_end
@@ -16,7 +18,7 @@ returns-then-is_end c =
     let f3 = c.number-end in
     let f4 = c.octets_field-last in
     let e : ends s f4.result ≡ true = sym c.is_end.ensures ∙ c.if-is_end.true in
-    asks (served c.listen-a.ensures c.put_answer.ensures (λ x. refl) (λ x n. refl))
+    asks (served c.listen-listening.ensures (given (ascii "listener") listening (λ k. refl) c.listen-listening.result c.put_granted.ensures) (λ x. refl) (λ x n. refl))
     (first-number s c.behind.result (read_to 0 6) f1.result 8 _ c.behind.ensures f1.ensures
     (number_read s f1.result f2.result 8 _ f2.ensures
     (number_read s f2.result f3.result 8 _ f3.ensures

@@ -20,7 +20,7 @@ returns-then-d c =
     let f3 = c.number-time in
     let d = c.octets-d in
     let said : List ℕ → Asked = λ x. calls (telegram (record { sender = eight f1.result; destination = eight f2.result; time = f3.result.value; local = a.local }) x) in
-    answered-as (idle a.tables.now a.statistics a.at a.out.now)
+    answered-as (idle a.tables.now a.statistics.now a.out.now)
     (first-number s c.behind.result (read_to 0 2) f1.result 8 _ c.behind.ensures f1.ensures
     (number_read s f1.result f2.result 8 _ f2.ensures
     (number_read s f2.result f3.result 16 _ f3.ensures

@@ -4,4 +4,4 @@ use Rattle.scenario_md.proofs.receive.Goals as goal
 
 pub returns : goal.returns
 returns c =
-    heard c.arrive-said.ensures c.outcome_of-outcome.ensures c.add.ensures c.put_heard.ensures
+    heard c.arrive-said.ensures c.outcome_of.ensures c.record.ensures c.put_heard.ensures

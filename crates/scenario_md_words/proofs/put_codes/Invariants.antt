@@ -1,15 +1,9 @@
--- The loop's invariant: what is left to put from here gives the room that all of them give.
-use mathlib.Core.Path.{◌≡◌}
-use Prim.Native.Nat.{◌≤◌, ◌-◌}
-use lib.ListN.{length}
-use Rattle.scenario_md_words.proofs.Codes.{left}
+-- The codes so far are put, behind the word.
+use Rattle.std.proofs.Common.{◌++◌, take}
+use Rattle.answer.specs.Answer.{word}
+use Rattle.answer.specs.Lent.{Fills}
+use Rattle.scenario_md_words.specs.Words.{all_signed}
 use Rattle.scenario_md_words.proofs.put_codes.Given as goal
 
-abbrev pub invariant-loop-i : goal.invariant-loop-i
-invariant-loop-i l =
-    (l.i ≤ 16)
-    × (length l.out ≡ length l.initial.out)
-    × (left l.codes l.i l.p l.out ≡ left l.codes 0 l.initial.p l.initial.out)
-
-abbrev pub decreases-loop-i : goal.decreases-loop-i
-decreases-loop-i l = 16 - l.i
+abbrev pub invariant-loop-code : goal.invariant-loop-code
+invariant-loop-code l = Fills (word "codes" ++ all_signed (take l.code-index l.code-items)) l.fn.out l.out

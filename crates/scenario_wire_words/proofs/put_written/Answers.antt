@@ -1,9 +1,6 @@
--- Each answer has its words.
-use Rattle.answer.proofs.Rooms.{◌⨟◌}
+-- The word, the number and the target.
+use Rattle.answer.proofs.Rooms.{◌▹◌}
 use Rattle.scenario_wire_words.proofs.put_written.Goals as goal
 
-pub returns-in-Octets : goal.returns-in-Octets
-returns-in-Octets c = rw c.in-Octets.is (c.word-p.ensures ⨟ c.decimal-p.ensures ⨟ c.octets.ensures)
-
-pub returns-in-Refused : goal.returns-in-Refused
-returns-in-Refused c = rw c.in-Refused.is c.refused.ensures
+pub returns-in-Ok : goal.returns-in-Ok
+returns-in-Ok c = rw c.in-Ok.is (c.word_of.ensures ▹ c.octets.ensures)

@@ -1,9 +1,13 @@
-use mathlib.Core.Path.{refl}
-use borrow.Author.Tests.{eq-eqb, ne_eqb}
+-- Mp and Mq by their numbers.
+use Rattle.session.specs.Session.{kind_of}
+use native.Mathlib.Omega.{arith}
+use Rattle.std.proofs.lemmas.Bool.Decides.{nat_tests}
 use Rattle.session.proofs.is_reply.Goals as goal
 
-pub returns-then-msg_type-eq-MP : goal.returns-then-msg_type-eq-MP
-returns-then-msg_type-eq-MP c = rw (eq-eqb _ _ c.if-msg_type-eq-MP.true)
+pub returns-in-Mp : goal.returns-in-Mp
+unfolding kind_of
+returns-in-Mp c = grind (arith, nat_tests)
 
-pub returns : goal.returns
-returns c = rw (ne_eqb _ _ c.if-msg_type-eq-MP.false) refl
+pub returns-in_default : goal.returns-in_default
+unfolding kind_of
+returns-in_default c = grind (arith, nat_tests)

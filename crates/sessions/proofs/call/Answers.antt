@@ -5,4 +5,4 @@ use Rattle.sessions.proofs.call.Goals as goal
 pub returns : goal.returns
 returns c =
     let a = c.args in
-    called a.id a.timeout a.time a.octets.now _ c.open-place.result c.opened_as.result c.open-place.ensures c.opened_as.ensures
+    called a.id a.timeout a.time a.octets.now _ c.open.result c.open.ensures

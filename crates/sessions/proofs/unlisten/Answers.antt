@@ -1,13 +1,17 @@
 -- The record of the slot decides, and is written where it was freed.
+use borrow.Author.Tests.{not-true, not-false}
 use Rattle.sessions.proofs.Answers.{unlisten-done, unlisten-none}
 use Rattle.sessions.proofs.unlisten.Goals as goal
 
-pub returns-then-l : goal.returns-then-l
-returns-then-l c =
+pub returns-then-not-listener_at : goal.returns-then-not-listener_at
+returns-then-not-listener_at c =
     let a = c.args in
-    unlisten-done a.k a.octets.now c.listener_at-l.result c.listener_at-l.ensures c.if-l.true _ c.no_listener-none.ensures _ c.put_listener.ensures
+    let x = c.listener_at.result in
+    unlisten-none a.k a.octets.now x c.listener_at.ensures (not-true x.used c.if-not-listener_at.true)
 
 pub returns : goal.returns
 returns c =
     let a = c.args in
-    unlisten-none a.k a.octets.now c.listener_at-l.result c.listener_at-l.ensures c.if-l.false
+    let x = c.listener_at.result in
+    unlisten-done a.k a.octets.now x c.listener_at.ensures (not-false x.used c.if-not-listener_at.false) _
+    c.free.ensures _ c.put_listener.ensures

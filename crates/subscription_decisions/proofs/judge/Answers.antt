@@ -1,21 +1,19 @@
--- Taking the datagram apart judges 2 to 6, its header's counters 7.
-use mathlib.Core.Path.{sym, ◌∙◌, ap}
-use Rattle.subscription_decisions.proofs.Judging.{weighed, taken_refused, taken-judged}
+use Rattle.std.proofs.Common.{sym, ◌∙◌}
+use Rattle.std.proofs.lemmas.Result.{err_from_is_err_and}
+use Rattle.subscription_decisions.proofs.Judging.{taken_refused, not-local, let_in}
 use Rattle.subscription_decisions.proofs.judge.Goals as goal
 
-pub returns-in_default : goal.returns-in_default
-returns-in_default c =
-    let x = c.args in
-    c.refusal.ensures ∙ taken_refused x.a x.datagram.now _ c.take_pd-taken.ensures _ c.in_default.is
+pub returns-in_err-common : goal.returns-in_err-common
+returns-in_err-common c =
+    let q = err_from_is_err_and c.from_residual.result c.from_residual.ensures.1 in
+    rw (q.1, q.2) (taken_refused c.args.a c.args.datagram.now _ (sym c.take.ensures ∙ c.in_err-common.was))
 
-pub returns-then-is_local : goal.returns-then-is_local
-returns-then-is_local c =
-    let x = c.args in
-    sym (ap weighed c.if-is_local.true)
-    ∙ taken-judged x.a x.datagram.now _ c.take_pd-taken.ensures _ _ c.in-Header.is c.is_local.ensures
+pub returns-then-not-is_local : goal.returns-then-not-is_local
+returns-then-not-is_local c =
+    let e = sym c.take.ensures ∙ c.in_ok-common.was in
+    not-local c.args.a c.args.datagram.now _ e (sym c.is_local.ensures ∙ c.if-not-is_local.true)
 
 pub returns : goal.returns
 returns c =
-    let x = c.args in
-    sym (ap weighed c.if-is_local.false)
-    ∙ taken-judged x.a x.datagram.now _ c.take_pd-taken.ensures _ _ c.in-Header.is c.is_local.ensures
+    let e = sym c.take.ensures ∙ c.in_ok-common.was in
+    let_in c.args.a c.args.datagram.now _ e (sym c.is_local.ensures ∙ c.if-not-is_local.false)

@@ -22,7 +22,7 @@ returns c =
     let zeros : List ℕ = replicate (c.padded_length.result - length s) 0 in
     let z : a.at + 4 + length s + length zeros ≡ a.at + 4 + padded (length s) = simp length-replicate (omega arith) in
     let w1 =
-    next (kept o a.at (omega arith)) (little_of 4 c.frame_check-check.result) (a.at + 4) refl c.put_little4.ensures in
+    next (kept o a.at (omega arith)) (little_of 4 c.frame_check-check.result) (a.at + 4) refl c.put_little.ensures in
     let w2 = next w1 s (a.at + 4 + length s) refl c.copy_into.ensures in
     let w3 = next w2 zeros (a.at + 4 + padded (length s)) z c.clear_part.ensures in
     w3.holds

@@ -1,8 +1,0 @@
--- The word, the common fields, and the others.
-use Rattle.answer.proofs.Rooms.{◌⨟◌}
-use Rattle.scenario_wire_words.specs.Words.{md_words}
-use Rattle.scenario_wire_words.proofs.put_md.Goals as goal
-
-pub returns : goal.returns
-unfolding md_words
-returns c = c.word-p.ensures ⨟ c.put_common-p.ensures ⨟ c.put_session.ensures

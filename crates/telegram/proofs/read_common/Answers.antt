@@ -1,5 +1,0 @@
--- Each field is read at its place.
-use Rattle.telegram.proofs.read_common.Goals as goal
-
-pub returns : goal.returns
-returns c = cc

@@ -1,6 +1,0 @@
--- What the call over the octets answers and leaves.
-use Rattle.trdp.proofs.Messages.{follows}
-use Rattle.trdp.proofs.trdp_unlisten.Goals as goal
-
-pub returns : goal.returns
-returns c = follows _ _ _ _ c.unlisten-a.ensures _ c.of_told.ensures
