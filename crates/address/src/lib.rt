@@ -5,6 +5,7 @@ ghost use Rattle.std.specs.Prelude.{◌≡◌};
 ghost use Rattle.address.specs.SenderRange.{reversed, admits};
 
 // Both ends 0: any sender; end 0: only the start; else start to end. Two ranges are equal as written.
+// Two numbers and no enum of the three cases: C hands both over (`trdp_subscribe`, `trdp_listen`).
 #[repr(C)]
 #[derive(Clone, Copy, PartialEq, Eq)]
 pub struct SenderRange {

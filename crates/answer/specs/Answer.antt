@@ -1,8 +1,10 @@
 -- An answer gathered in a room of octets, piece by piece, and its words.
-use Rattle.std.specs.Prelude.{◌≡◌, ℕ, zero, suc, ◌+◌, ◌/◌, ◌%◌, cond, List, [], ◌∷◌, ◌++◌, length, ℤ, pos, negsuc, nat_le, nat_lt}
+use Rattle.std.specs.Prelude.{◌≡◌, ℕ, zero, suc, ◌+◌, ◌/◌, ◌%◌, cond, List, [], ◌∷◌, ◌++◌, length, ℤ, pos, negsuc, nat_le, nat_lt, Ok, Err, Result}
 use Prim.Native.Char.{code}
 use Prim.Native.String.{String, [] as none, ◌∷◌ as ◌then◌}
 use Rattle.std.proofs.Math.Option.{Option, none as nothing, some}
+use Rattle.refusal.specs.declared.Refusal.{Refusal}
+use Rattle.refusal.specs.Refusal.{number as number_of}
 use Rattle.octets.specs.Octets.{put}
 use Rattle.hexadecimal.specs.Hex.{digits_of, hex_of}
 
@@ -84,3 +86,13 @@ word_of s x = spaced s ++ decimal x
 -- `refused` and a number of document 01
 abbrev pub refused : ℕ → List (List ℕ)
 refused r = word_of (ascii "refused") r
+
+-- what was granted, behind its word; or `refused` and the number
+abbrev pub granted_words : List ℕ → Result ℕ Refusal → List (List ℕ)
+granted_words w (Ok n) = word_of w n
+granted_words w (Err r) = refused (number_of r)
+
+-- what was done, in a word; or `refused` and the number
+abbrev pub done_words : List ℕ → Result (Unit {0}) Refusal → List (List ℕ)
+done_words w (Ok u) = spaced w
+done_words w (Err r) = refused (number_of r)

@@ -3,20 +3,24 @@
 #![tactic(auto)]
 
 ghost use Rattle.std.specs.Prelude.{◌≡◌, ℕ, [], ◌∷◌};
-ghost use Rattle.answer.specs.Answer.{spaced, decimal_of};
+ghost use Rattle.answer.specs.Answer.{spaced, decimal_of, granted_words, done_words};
 ghost use Rattle.answer.specs.Answer.{decimal as decimal_word, number as number_word, octets as octets_word, signed as signed_word, word_of, refused as refused_word};
 ghost use Rattle.answer.specs.Lent.{Fills};
 
-// A number that is put in as many hexadecimal digits as its type has.
-pub trait Number: Copy {
+use refusal::Refusal;
+
+// A number that is put in as many hexadecimal digits as its type has. The impls are alike, but an impl is not to be
+// written by a macro of the repository.
+// Beside `octets::Number`, which would have to carry the law `same` of a conversion that nothing else needs.
+pub trait Number: Copy + Into<u64> {
     ghost DIGITS: { ℕ };
 
     ghost value: { Self → ℕ };
 
-    const DIGITS: usize;
+    // Converted it is the same number.
+    ghost same: { (x : Self) (n : ℕ) → Self.Into.converts x n → n ≡ value x };
 
-    fn wide(self) -> u64
-        ensures { result ≡ value self };
+    const DIGITS: usize;
 }
 
 impl Number for u16 {
@@ -24,11 +28,9 @@ impl Number for u16 {
 
     ghost value = { λ x. x };
 
-    const DIGITS: usize = 4;
+    ghost same = { λ x n e. e };
 
-    fn wide(self) -> u64 {
-        u64::from(self)
-    }
+    const DIGITS: usize = 4;
 }
 
 impl Number for u32 {
@@ -36,11 +38,9 @@ impl Number for u32 {
 
     ghost value = { λ x. x };
 
-    const DIGITS: usize = 8;
+    ghost same = { λ x n e. e };
 
-    fn wide(self) -> u64 {
-        u64::from(self)
-    }
+    const DIGITS: usize = 8;
 }
 
 impl Number for u64 {
@@ -48,14 +48,13 @@ impl Number for u64 {
 
     ghost value = { λ x. x };
 
-    const DIGITS: usize = 16;
+    ghost same = { λ x n e. e };
 
-    fn wide(self) -> u64 {
-        self
-    }
+    const DIGITS: usize = 16;
 }
 
-// A lent room, and the place where the next piece goes.
+// A lent room, and the place where the next piece goes: no std::io::Cursor, which would take part of a piece that does
+// not fit (`put_piece` leaves it out whole).
 #[derive(Drop)]
 pub struct Room<'a> {
     pub octets: &'a mut [u8],
@@ -75,7 +74,7 @@ impl<'a> Room<'a> {
         }
     }
 
-    // A space and a word.
+    // A space and a word. `decimal` is alike, but one function for both would be longer than their two lines.
     pub fn word(&mut self, s: &[u8])
         ensures { Fills (spaced s.now) self.old self.new }
     {
@@ -117,7 +116,7 @@ impl<'a> Room<'a> {
     pub fn number<T: Number>(&mut self, x: T)
         ensures { Fills (number_word T.DIGITS (T.value x)) self.old self.new }
     {
-        self.digits_of(T::DIGITS, x.wide());
+        self.digits_of(T::DIGITS, x.into());
     }
 
     // A space and a signed number in decimal.
@@ -153,10 +152,30 @@ impl<'a> Room<'a> {
         self.decimal(x as u64);
     }
 
-    // `refused` and a number of document 01.
-    pub fn refused(&mut self, number: u8)
-        ensures { Fills (refused_word number) self.old self.new }
+    // `refused` and a number of document 01: a refusal's, or the number itself.
+    pub fn refused<R: Into<u8>>(&mut self, refusal: R)
+        ensures { (number : ℕ) × R.converts refusal number × Fills (refused_word number) self.old self.new }
     {
-        self.word_of(b"refused", usize::from(number));
+        self.word_of(b"refused", usize::from(refusal.into()));
+    }
+
+    // What was granted, behind its word; or the refusal.
+    pub fn granted(&mut self, word: &[u8], granted: Result<usize, Refusal>)
+        ensures { Fills (granted_words word.now granted) self.old self.new }
+    {
+        match granted {
+            Ok(n) => self.word_of(word, n),
+            Err(r) => self.refused(r),
+        }
+    }
+
+    // What was done, in a word; or the refusal. One function with `granted` would take a closure for what is put on Ok.
+    pub fn done(&mut self, word: &[u8], done: Result<(), Refusal>)
+        ensures { Fills (done_words word.now done) self.old self.new }
+    {
+        match done {
+            Ok(()) => self.word(word),
+            Err(r) => self.refused(r),
+        }
     }
 }

@@ -20,6 +20,7 @@ use subscription_decisions::View;
 use telegram::Common;
 
 // What a call answers: a slot, a count or a length; 0 where it is refused or has nothing to say.
+// Numbers, since C reads it from `trdp_subscribe`, `trdp_write_pd` and others, which can return no enum.
 #[repr(C)]
 #[derive(Clone, Copy)]
 pub struct Outcome {
@@ -77,7 +78,7 @@ const NO_MD_HEADER: MdHeader = MdHeader {
     reply_timeout: 0,
 };
 
-// A PD datagram taken apart.
+// A PD datagram taken apart. A number beside the header, since C reads it from `trdp_take_pd`.
 #[repr(C)]
 #[derive(Clone, Copy)]
 pub struct PdDatagram {
@@ -100,7 +101,7 @@ impl From<Result<PdHeader, Refusal>> for PdDatagram {
     }
 }
 
-// An MD datagram taken apart.
+// An MD datagram taken apart. A number beside the fields, since C reads it from `trdp_take_md`.
 #[repr(C)]
 #[derive(Clone, Copy)]
 pub struct MdDatagram {
@@ -144,7 +145,7 @@ impl MdDatagram {
     }
 }
 
-// A sending: how many octets were written, and the publication after it.
+// A sending: how many octets were written, and the publication after it. Numbers, since C reads it from `trdp_send`.
 #[repr(C)]
 #[derive(Clone, Copy)]
 pub struct Sending {
@@ -168,7 +169,7 @@ impl Sending {
 }
 
 // What reading a slot shows. State: 0 never received, 1 valid, 2 timed out. Either the substitute set whole, or so many
-// octets of the store from start on.
+// octets of the store from start on. Numbers and a flag, since C reads it from `trdp_read`.
 #[repr(C)]
 #[derive(Clone, Copy)]
 pub struct Shown {
@@ -196,6 +197,7 @@ impl From<Refusal> for Shown {
 
 impl Shown {
     // What reading slot k answers: the substitute set, or its part's first octets; or the refusal's number.
+    // No `From`, since the slot's number is asked for too.
     #[tactic(auto, unfolding(subscription_table::specs::Slot::slot_octets))]
     pub fn of_slot(k: usize, r: Result<View, Refusal>) -> Self
         requires { IfOk r (λ _. k < 32) }
@@ -221,7 +223,7 @@ impl Shown {
 }
 
 // What becomes of an MD telegram. Kind: 0 refused, 1 notified, 2 requested, 3 taken. Status: replyStatus of what was
-// taken, or the status that a refusal carries.
+// taken, or the status that a refusal carries. Numbers, since C reads it from `trdp_receive_md`.
 #[repr(C)]
 #[derive(Clone, Copy)]
 pub struct MdOutcome {
@@ -283,7 +285,7 @@ pub struct Codes {
 }
 
 // A session as a host sees it. State: 0 free, 1 waiting for reply, 2 owing a confirm, 3 with the user, 4 waiting for
-// confirm.
+// confirm. Numbers, since C reads it from `trdp_session`.
 #[repr(C)]
 #[derive(Clone, Copy)]
 pub struct SessionSeen {

@@ -12,10 +12,11 @@ pub struct Frame {
     pub sender: u32,
     pub destination: u32,
     pub time: u64,
+    // How many, and no slice: the octets stand in the caller's buffer, of fixed size, which `Reads` names.
     pub octets: usize,
 }
 
-// The number that 8 digits write at a place.
+// The number that 8 digits write at a place, which stands beside the line since `digits_at` and `number_at` take both.
 fn word_at(s: &[u8], at: usize) -> u32
     requires at_in_bounds { at + 8 ≤ length s.now }
     requires s_value { digits_at 8 at s.now ≡ true }

@@ -19,7 +19,7 @@ use Rattle.dataset.proofs.Walks.{Even}
 pub written : (s t u v : List ℕ) (p : ℕ) (w : Walked) {r : Result ℕ Refusal} → Even s w
     → Stepped w (length s) 0 false t (Ok p) u → p ≡ length s → p ≤ length t
     → Stepped w (length s) 0 true u r v → Converts w (length s) t r v
-written s t u v p (stopped x) even h e k g = let z : ◌≡◌ {A = ℕ} 0 1 = cc h.answers in absurd (omega arith)
+written s t u v p (stopped x) even h e k g = grind arith
 written s t u v p (walked left done) even h e k g =
     let f : p ≡ length s - length left = cc h.answers in
     let n : length left ≡ 0 = omega (arith, even) in

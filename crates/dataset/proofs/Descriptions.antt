@@ -1,15 +1,14 @@
 -- Descriptions in a run: the one at its head, and the look-up from one to the next.
 -- Assumes nothing.
-use Rattle.std.proofs.Common.{◌≡◌, refl, sym, ap, ◌∙◌, ℕ, zero, suc, ◌-◌, ◌*◌, ◌/◌, ◌≤◌, ◌<◌, arith, List, [], ◌∷◌, Bool, true, false, cond, ◌||◌, eqb, ltb, leb, length, take, drop, map, get_or}
-use Rattle.std.proofs.lemmas.Bool.{true≢false}
+use Rattle.std.proofs.Common.{◌≡◌, refl, sym, ap, ◌∙◌, ℕ, zero, suc, ◌-◌, ◌*◌, ◌/◌, ◌≤◌, ◌<◌, arith, List, [], ◌∷◌}
+use Rattle.std.proofs.Common.{Bool, true, false, cond, ◌||◌, eqb, ltb, leb, length, take, drop, map, get_or}
 use mathlib.Core.Bool.{or-false}
-use Rattle.std.specs.Prelude.{Some, None, Ok, Err}
+use Rattle.std.specs.Prelude.{Some, None, Ok}
 use Rattle.std.specs.List.{list_any, IsSplitAt}
 use Rattle.std.specs.Simd.{first_chunks}
-use borrow.Author.Tests.{eqb-false, ltb-false, le-ltb}
+use borrow.Author.Tests.{le-ltb}
 use lib.ListN.{length-drop}
 use Rattle.std.proofs.lemmas.List.{take_all}
-use Rattle.refusal.specs.declared.Refusal.TheVariants as refusal
 use Rattle.dataset.specs.Descriptions.{element_of, elements_of, typeless, malformed, Description, headed, scan}
 use Rattle.dataset.specs.Steps.{described_by}
 
@@ -34,16 +33,8 @@ pub record Sound (n : ℕ) (run : List ℕ) : Type 0 where
   pub long : 2 * n ≤ length run
   pub typed : typeless (elements_of n run) ≡ false
 
-or_parts : (a b c d : Bool) → (a || b || c || d) ≡ false → (b ≡ false) × (c ≡ false) × (d ≡ false)
-or_parts true b c d e = absurd (true≢false e)
-or_parts false true c d e = absurd (true≢false e)
-or_parts false false true d e = absurd (true≢false e)
-or_parts false false false d e = (refl, refl, e)
-
 pub is-sound : (x n : ℕ) (run : List ℕ) → malformed x n run ≡ false → Sound n run
-is-sound x n run e =
-    let k = or_parts (leb x 16) (eqb n 0) (ltb (length run) (2 * n)) (typeless (elements_of n run)) e in
-    record { some = eqb-false n 0 k.0; long = ltb-false (length run) (2 * n) k.1; typed = k.2 }
+is-sound x n run e = grind arith
 
 -- more descriptions than numbers need not be counted
 scan-same : (m k id : ℕ) (run : List ℕ) → length run ≤ m → length run ≤ k → scan m id run ≡ scan k id run
@@ -58,37 +49,14 @@ scan-same (suc m) (suc k) id (x ∷ n ∷ run) h j =
     rw (scan-same m k id (drop (2 * n) run) (omega (arith, length-drop (2 * n) run))
     (omega (arith, length-drop (2 * n) run)))
 
--- the end of the run
-pub scan-end : (m id : ℕ) (run : List ℕ) → length run ≡ 0 → scan m id run ≡ Err refusal.NotDescribed
-scan-end zero id run h = refl
-scan-end (suc m) id [] h = refl
-scan-end (suc m) id (x ∷ run) h = absurd (omega arith)
-
--- a malformed description ends the look-up
-pub scan-malformed : (m id : ℕ) (run : List ℕ) → (length run ≡ 0 → ⊥) → length run ≤ m → headed run ≡ None
-    → scan m id run ≡ Err refusal.Description
-scan-malformed m id [] h k e = absurd (h refl)
-scan-malformed zero id (x ∷ run) h k e = absurd (omega arith)
-scan-malformed (suc m) id (x ∷ []) h k e = refl
-scan-malformed (suc m) id (x ∷ n ∷ run) h k e = go (malformed x n run) e
-  where
-    here : Description
-    here = record { id = x; elements = elements_of n run; rest = drop (2 * n) run }
-
-    go : (b : Bool) → cond b None (Some here) ≡ None
-        → cond b (Err refusal.Description) (cond (eqb x id) (Ok (elements_of n run)) (scan m id (drop (2 * n) run)))
-        ≡ Err refusal.Description
-    go true e = refl
-    go false e = let z : ◌≡◌ {A = ℕ} 0 1 = cc in absurd (omega arith)
-
 -- a sound one is the one sought, or is passed
 pub record Passes (m id : ℕ) (run : List ℕ) (d : Description) : Type 0 where
   pub shorter : length d.rest < length run
   pub on : scan m id run ≡ cond (eqb d.id id) (Ok d.elements) (scan m id d.rest)
 
 pub passes : (m id : ℕ) (run : List ℕ) (d : Description) → length run ≤ m → Some d ≡ headed run → Passes m id run d
-passes m id [] d k e = let z : ◌≡◌ {A = ℕ} 0 1 = cc in absurd (omega arith)
-passes m id (x ∷ []) d k e = let z : ◌≡◌ {A = ℕ} 0 1 = cc in absurd (omega arith)
+passes m id [] d k e = grind arith
+passes m id (x ∷ []) d k e = grind arith
 passes zero id (x ∷ n ∷ run) d k e = absurd (omega arith)
 passes (suc m) id (x ∷ n ∷ run) d k e = go (malformed x n run) refl e
   where
@@ -96,7 +64,7 @@ passes (suc m) id (x ∷ n ∷ run) d k e = go (malformed x n run) refl e
     here = record { id = x; elements = elements_of n run; rest = drop (2 * n) run }
 
     go : (b : Bool) → malformed x n run ≡ b → Some d ≡ cond b None (Some here) → Passes (suc m) id (x ∷ n ∷ run) d
-    go true f e = let z : ◌≡◌ {A = ℕ} 0 1 = cc in absurd (omega arith)
+    go true f e = grind arith
     go false f e =
         let same : d ≡ here = cc in
         rw same (record {

@@ -1,20 +1,25 @@
 -- What is left to walk at each element of a dataset, and at each dataset of an array.
 -- Assumes nothing.
-use Rattle.std.proofs.Common.{◌≡◌, refl, ap, ◌∙◌, ℕ, zero, suc, ◌+◌, ◌-◌, ◌<◌, arith, List, [], ◌∷◌, length, get_or, drop, map}
-use Rattle.std.specs.Prelude.{Option, Some, None}
+use Rattle.std.proofs.Common.{◌≡◌, refl, ap, ◌∙◌, ℕ, zero, suc, ◌+◌, ◌-◌, ◌<◌, ◌≤◌, arith, List, [], ◌∷◌, length}
+use Rattle.std.proofs.Common.{get_or}
+use Rattle.std.proofs.Common.{drop, map}
+use Rattle.std.specs.Prelude.{◌==◌, not, Option, Some, None}
+use Rattle.std.specs.Bool.{then_some}
+use Rattle.std.specs.Option.{option_or}
 use native.Mathlib.Numerals.{add-one}
 use lib.Seq.{drop-cons}
 use Rattle.refusal.specs.declared.Refusal.TheVariants as refusal
 use Rattle.dataset.specs.Descriptions.{Element, element_of, look_up}
-use Rattle.dataset.specs.Walk.{Walked, stopped, walked, then, times, count_behind, with_items, items_of, walk_of, through_found, nested_of}
+use Rattle.dataset.specs.Walk.{Walked, stopped, walked, then, times, count_behind, with_items, items_of, walk_of}
+use Rattle.dataset.specs.Walk.{through_found, nested_of, turned}
+use Rattle.scalars.specs.Scalars.{parts_of}
 use Rattle.dataset.specs.Steps.{element}
 use Rattle.dataset.specs.declared.Form.{Form}
 
 -- no dataset
 pub nested-none : (levels : ℕ) (form : Form) (run : List ℕ) (id n : ℕ) (d : List ℕ) → n ≡ 0
     → nested_of levels form run id n d ≡ walked d []
-nested-none zero form run id n d e = rw e
-nested-none (suc levels) form run id n d e = rw e
+nested-none levels form run id n d e = grind arith
 
 -- some datasets, of a description that was found or not
 pub nested-found : (levels : ℕ) (form : Form) (run : List ℕ) (id n : ℕ) (d : List ℕ) → (n ≡ 0 → ⊥) → (levels ≡ 0 → ⊥)
@@ -40,27 +45,38 @@ module _ (form : Form) (nested : ℕ → ℕ → List ℕ → Walked) (es : List
   -- n items of element i, then the elements behind it
   abbrev pub items : ℕ → Walked
   items n =
-      then (items_of nested here.type n d) (walk_of form nested (map element_of (drop (i + 1) es)) (count_behind form here d))
+      then (items_of nested here.type n d)
+      (walk_of form nested (map element_of (drop (i + 1) es)) (count_behind form here d))
 
   opened : walk_of form nested (map element_of (drop i es)) before d ≡ with_items before here.count items
   opened =
       let e : drop i es ≡ get_or es i [] ∷ drop (i + 1) es = rw add-one (drop-cons es i [] h) in
       ap (λ xs. walk_of form nested (map element_of xs) before d) e
 
-  -- it has a count
-  pub walk-counted : (here.count ≡ 0 → ⊥) → walk_of form nested (map element_of (drop i es)) before d ≡ items here.count
-  walk-counted k = opened ∙ go here.count k
-    where
-      go : (n : ℕ) → (n ≡ 0 → ⊥) → with_items before n items ≡ items n
-      go zero k = absurd (k refl)
-      go (suc n) k = refl
+  -- how many items it has: its count, or for a count of 0 the value before it, if there is one
+  abbrev pub many : ℕ → Option ℕ
+  many m = option_or (then_some (not (m == 0)) m) before
 
-  -- its count is 0: the value before it, if there is one
-  pub walk-valued : (n : ℕ) → here.count ≡ 0 → before ≡ Some n
+  pub walk-known : (n : ℕ) → many here.count ≡ Some n
       → walk_of form nested (map element_of (drop i es)) before d ≡ items n
-  walk-valued n k e = opened ∙ ap (λ m. with_items before m items) k ∙ ap (λ c. with_items c 0 items) e
+  walk-known n e = opened ∙ go here.count e
+    where
+      go : (m : ℕ) → many m ≡ Some n → with_items before m items ≡ items n
+      go zero e = ap (λ c. with_items c 0 items) e
+      go (suc m) e = grind arith
 
-  -- there is none
-  pub walk-bad : here.count ≡ 0 → before ≡ None
+  pub walk-bad : many here.count ≡ None
       → walk_of form nested (map element_of (drop i es)) before d ≡ stopped refusal.Description
-  walk-bad k e = opened ∙ ap (λ m. with_items before m items) k ∙ ap (λ c. with_items c 0 items) e
+  walk-bad e = opened ∙ go here.count e
+    where
+      go : (m : ℕ) → many m ≡ None → with_items before m items ≡ stopped refusal.Description
+      go zero e = ap (λ c. with_items c 0 items) e
+      go (suc m) e = grind arith
+
+-- items of either kind
+module _ (nested : ℕ → ℕ → List ℕ → Walked) (t n : ℕ) (d : List ℕ) where
+  pub items-scalar : t < 17 → items_of nested t n d ≡ times n (turned (parts_of t)) d
+  items-scalar h = grind arith
+
+  pub items-nested : 17 ≤ t → items_of nested t n d ≡ nested t n d
+  items-nested h = grind arith

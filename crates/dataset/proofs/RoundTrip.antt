@@ -15,7 +15,8 @@ use Rattle.refusal.specs.declared.Refusal.{Refusal}
 use Rattle.refusal.specs.declared.Refusal.TheVariants as refusal
 use Rattle.scalars.specs.Scalars.{parts_of, size}
 use Rattle.dataset.specs.Descriptions.{Element, look_up}
-use Rattle.dataset.specs.Walk.{Walked, stopped, walked, behind, then, times, turned, counts, number_of, count_behind, with_items, items_of, walk_of, through_found, nested_of, whole_of}
+use Rattle.dataset.specs.Walk.{Walked, stopped, walked, behind, then, times, turned, counts, number_of, count_behind}
+use Rattle.dataset.specs.Walk.{with_items, items_of, walk_of, through_found, nested_of, whole_of}
 use Rattle.dataset.specs.declared.Form.{Form}
 use Rattle.dataset.specs.declared.Form.TheVariants.{Wire, Host}
 use Rattle.dataset.proofs.Walks.{Even, even-whole}
@@ -45,24 +46,15 @@ record Split (w : Walked) (f : List ℕ → Walked) (left done : List ℕ) : Typ
   joined : a ++ b ≡ done
 
 split : (w : Walked) (f : List ℕ → Walked) (left done : List ℕ) → then w f ≡ walked left done → Split w f left done
-split (stopped r) f left done e = let z : ◌≡◌ {A = ℕ} 0 1 = cc in absurd (omega arith)
-split (walked l a) f left done e = go (f l) refl e
-  where
-    go : (v : Walked) → f l ≡ v → behind a v ≡ walked left done → Split (walked l a) f left done
-    go (stopped r) q k = let z : ◌≡◌ {A = ℕ} 0 1 = cc in absurd (omega arith)
-    go (walked m b) q k =
-        let x : m ≡ left = cc in
-        let y : a ++ b ≡ done = cc in
-        record { l = l; a = a; b = b; first = refl; second = q ∙ ap (λ (n : List ℕ). walked n b) x; joined = y }
+split w f left done e = grind arith
 
-nothing : (g : List ℕ → Walked) (d left done : List ℕ) → ((rest : List ℕ) → g rest ≡ walked rest []) → walked d [] ≡ walked left done → Back g d left done
-nothing g d left done h e =
-    let x : d ≡ left = cc in
-    let y : [] ≡ done = cc in
-    record { front = []; splits = x; back = λ rest. ap (λ (l : List ℕ). g (l ++ rest)) (sym y) ∙ h rest }
+nothing : (g : List ℕ → Walked) (d left done : List ℕ) → ((rest : List ℕ) → g rest ≡ walked rest [])
+    → walked d [] ≡ walked left done → Back g d left done
+nothing g d left done h e = grind arith
 
 -- g turns back the first walk and then, by k, the second
-both : (g₁ k g : List ℕ → Walked) (d left done : List ℕ) {w : Walked} {f : List ℕ → Walked} (s : Split w f left done) → Back g₁ d s.l s.a → Back k s.l left s.b
+both : (g₁ k g : List ℕ → Walked) (d left done : List ℕ) {w : Walked} {f : List ℕ → Walked} (s : Split w f left done)
+    → Back g₁ d s.l s.a → Back k s.l left s.b
     → ((rest : List ℕ) → g (s.a ++ rest) ≡ then (g₁ (s.a ++ rest)) k) → Back g d left done
 both g₁ k g d left done s p q h =
     record {
@@ -78,44 +70,51 @@ both g₁ k g d left done s p q h =
     }
 
 -- one part of k octets, and what stands behind it
-part-back : (k : ℕ) (ks d left b : List ℕ) → k ≤ length d → Back (turned ks) (drop k d) left b → Back (turned (k ∷ ks)) d left (reverse (take k d) ++ b)
+part-back : (k : ℕ) (ks d left b : List ℕ) → k ≤ length d → Back (turned ks) (drop k d) left b
+    → Back (turned (k ∷ ks)) d left (reverse (take k d) ++ b)
 part-back k ks d left b h q =
     let r : List ℕ = reverse (take k d) in
     let long : length r ≡ k = length-reverse (take k d) ∙ length-take-le k d h in
     record {
       front = take k d ++ q.front;
-      splits = sym (take-append-drop k d) ∙ ap (λ (l : List ℕ). take k d ++ l) q.splits ∙ sym (append_assoc (take k d) q.front left);
+      splits = sym (take-append-drop k d) ∙ ap (λ (l : List ℕ). take k d ++ l) q.splits
+          ∙ sym (append_assoc (take k d) q.front left);
       back =
           λ rest.
           let x : List ℕ = r ++ (b ++ rest) in
           let enough : ltb (length x) k ≡ false = le-ltb (length x) k (omega (arith, length-append r (b ++ rest))) in
           ap (turned (k ∷ ks)) (append_assoc r b rest)
-          ∙ ap (λ (t : Bool). cond t (stopped refusal.DataLength) (behind (reverse (take k x)) (turned ks (drop k x)))) enough
-          ∙ ap₂ (λ (m n : List ℕ). behind (reverse m) (turned ks n)) (take_at r (b ++ rest) k long) (drop_at r (b ++ rest) k long)
+          ∙ ap (λ (t : Bool). cond t (stopped refusal.DataLength) (behind (reverse (take k x)) (turned ks (drop k x))))
+          enough
+          ∙ ap₂ (λ (m n : List ℕ). behind (reverse m) (turned ks n)) (take_at r (b ++ rest) k long)
+          (drop_at r (b ++ rest) k long)
           ∙ ap₂ behind (reverse-reverse (take k d)) (q.back rest);
     }
 
 undoes-turned : (ks : List ℕ) → Undoes (turned ks) (turned ks)
 unfolding Undoes
-undoes-turned [] d left done e = nothing (turned []) d left done (λ rest. refl) e
+undoes-turned [] d left done e = grind arith
 undoes-turned (k ∷ ks) d left done e = go (ltb (length d) k) refl e (undoes-turned ks)
   where
-    go : (b : Bool) → ltb (length d) k ≡ b → cond b (stopped refusal.DataLength) (then (walked (drop k d) (reverse (take k d))) (turned ks)) ≡ walked left done → Undoes (turned ks) (turned ks)
+    go : (b : Bool) → ltb (length d) k ≡ b → cond b (stopped refusal.DataLength)
+        (then (walked (drop k d) (reverse (take k d))) (turned ks)) ≡ walked left done → Undoes (turned ks) (turned ks)
         → Back (turned (k ∷ ks)) d left done
-    go true h q ih = let z : ◌≡◌ {A = ℕ} 0 1 = cc in absurd (omega arith)
+    go true h q ih = grind arith
     go false h q ih =
         let s = split (walked (drop k d) (reverse (take k d))) (turned ks) left done q in
         let l : s.l ≡ drop k d = cc s.first in
         let a : s.a ≡ reverse (take k d) = cc s.first in
         subst (Back (turned (k ∷ ks)) d left) (ap (λ (x : List ℕ). x ++ s.b) (sym a) ∙ s.joined)
-        (part-back k ks d left s.b (ltb-false (length d) k h) (ih (drop k d) left s.b (ap (turned ks) (sym l) ∙ s.second)))
+        (part-back k ks d left s.b (ltb-false (length d) k h)
+        (ih (drop k d) left s.b (ap (turned ks) (sym l) ∙ s.second)))
 
 undoes-times : (n : ℕ) (f g : List ℕ → Walked) → Undoes f g → Undoes (times n f) (times n g)
 unfolding Undoes
-undoes-times zero f g u d left done e = nothing (times zero g) d left done (λ rest. refl) e
+undoes-times zero f g u d left done e = grind arith
 undoes-times (suc n) f g u d left done e =
     let s = split (f d) (times n f) left done e in
-    both g (times n g) (times (suc n) g) d left done s (u d s.l s.a s.first) (undoes-times n f g u s.l left s.b s.second) (λ rest. refl)
+    both g (times n g) (times (suc n) g) d left done s (u d s.l s.a s.first)
+    (undoes-times n f g u s.l left s.b s.second) (λ rest. refl)
 
 -- the number in octets that are turned round, read in the other form
 number-back : (form : Form) (s : List ℕ) → number_of (other form) (reverse s) ≡ number_of form s
@@ -145,8 +144,10 @@ record Single (k : ℕ) (d a : List ℕ) : Type 0 where
 single : (k : ℕ) (d l a : List ℕ) → times 1 (turned (k ∷ [])) d ≡ walked l a → Single k d a
 single k d l a q = go (ltb (length d) k) refl q
   where
-    go : (b : Bool) → ltb (length d) k ≡ b → then (cond b (stopped refusal.DataLength) (then (walked (drop k d) (reverse (take k d))) (turned []))) (times 0 (turned (k ∷ []))) ≡ walked l a → Single k d a
-    go true h e = let z : ◌≡◌ {A = ℕ} 0 1 = cc in absurd (omega arith)
+    go : (b : Bool) → ltb (length d) k ≡ b
+        → then (cond b (stopped refusal.DataLength) (then (walked (drop k d) (reverse (take k d))) (turned [])))
+        (times 0 (turned (k ∷ []))) ≡ walked l a → Single k d a
+    go true h e = grind arith
     go false h e =
         let r : List ℕ = reverse (take k d) in
         let f : a ≡ r ++ [] ++ [] = cc in
@@ -161,21 +162,25 @@ module _ (nested nested' : ℕ → ℕ → List ℕ → Walked) (u : (t n : ℕ)
   unfolding Undoes
   undoes-items t n = which (ltb t 17)
     where
-      which : (b : Bool) → Undoes (λ d. cond b (times n (turned (parts_of t)) d) (nested t n d)) (λ d. cond b (times n (turned (parts_of t)) d) (nested' t n d))
+      which : (b : Bool) → Undoes (λ d. cond b (times n (turned (parts_of t)) d) (nested t n d))
+          (λ d. cond b (times n (turned (parts_of t)) d) (nested' t n d))
       which true = undoes-times n (turned (parts_of t)) (turned (parts_of t)) (undoes-turned (parts_of t))
       which false = u t n
 
   -- the count behind an element is the same in both forms
-  same_count : (form : Form) (e : Element) (n : ℕ) (d l a rest : List ℕ) → (e.count ≡ 1 → n ≡ 1) → items_of nested e.type n d ≡ walked l a → count_behind (other form) e (a ++ rest) ≡ count_behind form e d
+  same_count : (form : Form) (e : Element) (n : ℕ) (d l a rest : List ℕ) → (e.count ≡ 1 → n ≡ 1)
+      → items_of nested e.type n d ≡ walked l a → count_behind (other form) e (a ++ rest) ≡ count_behind form e d
   same_count form e n d l a rest h q = go (eqb e.count 1) (counts e.type) refl refl
     where
       go : (b c : Bool) → eqb e.count 1 ≡ b → counts e.type ≡ c
-          → cond (b && c) (Some (number_of (other form) (take (size (parts_of e.type)) (a ++ rest)))) None ≡ cond (b && c) (Some (number_of form (take (size (parts_of e.type)) d))) None
+          → cond (b && c) (Some (number_of (other form) (take (size (parts_of e.type)) (a ++ rest)))) None
+          ≡ cond (b && c) (Some (number_of form (take (size (parts_of e.type)) d))) None
       go false c x y = refl
       go true false x y = refl
       go true true x y =
           let o = one e.type y in
-          let i : items_of nested e.type n d ≡ times 1 (turned (o.k ∷ [])) d = rw (o.scalar, h (eqb-true e.count 1 x), o.parts) in
+          let i : items_of nested e.type n d ≡ times 1 (turned (o.k ∷ [])) d =
+          rw (o.scalar, h (eqb-true e.count 1 x), o.parts) in
           let w = single o.k d l a (sym i ∙ q) in
           let r : List ℕ = reverse (take o.k d) in
           let k : size (parts_of e.type) ≡ o.k = ap size o.parts ∙ add-zero o.k in
@@ -186,65 +191,81 @@ module _ (nested nested' : ℕ → ℕ → List ℕ → Walked) (u : (t n : ℕ)
           ∙ number-back form (take o.k d)
           ∙ ap (λ (m : ℕ). number_of form (take m d)) (sym k))
 
-  undoes-walk : (form : Form) (es : List Element) (c : Option ℕ) → Undoes (walk_of form nested es c) (walk_of (other form) nested' es c)
+  undoes-walk : (form : Form) (es : List Element) (c : Option ℕ)
+      → Undoes (walk_of form nested es c) (walk_of (other form) nested' es c)
   unfolding Undoes
-  undoes-walk form [] c d left done e = nothing (walk_of (other form) nested' [] c) d left done (λ rest. refl) e
+  undoes-walk form [] c d left done e = grind arith
   undoes-walk form (e ∷ es) c d left done q = go e.count c refl q (undoes-walk form es)
     where
-      step : (n : ℕ) → (e.count ≡ 1 → n ≡ 1) → on form nested e es d n ≡ walked left done → ((c : Option ℕ) → Undoes (walk_of form nested es c) (walk_of (other form) nested' es c))
+      step : (n : ℕ) → (e.count ≡ 1 → n ≡ 1) → on form nested e es d n ≡ walked left done
+          → ((c : Option ℕ) → Undoes (walk_of form nested es c) (walk_of (other form) nested' es c))
           → Back (λ x. on (other form) nested' e es x n) d left done
       step n h q ih =
           let c' : Option ℕ = count_behind form e d in
           let s = split (items_of nested e.type n d) (walk_of form nested es c') left done q in
-          both (items_of nested' e.type n) (walk_of (other form) nested' es c') (λ x. on (other form) nested' e es x n) d left done s
+          both (items_of nested' e.type n) (walk_of (other form) nested' es c') (λ x. on (other form) nested' e es x n)
+          d left done s
           (undoes-items e.type n d s.l s.a s.first) (ih c' s.l left s.b s.second)
-          (λ rest. ap (λ (x : Option ℕ). then (items_of nested' e.type n (s.a ++ rest)) (walk_of (other form) nested' es x)) (same_count form e n d s.l s.a rest h s.first))
+          (λ rest. ap (λ (x : Option ℕ). then (items_of nested' e.type n (s.a ++ rest))
+          (walk_of (other form) nested' es x)) (same_count form e n d s.l s.a rest h s.first))
 
-      go : (m : ℕ) (c : Option ℕ) → e.count ≡ m → with_items c m (on form nested e es d) ≡ walked left done → ((c : Option ℕ) → Undoes (walk_of form nested es c) (walk_of (other form) nested' es c))
+      go : (m : ℕ) (c : Option ℕ) → e.count ≡ m → with_items c m (on form nested e es d) ≡ walked left done
+          → ((c : Option ℕ) → Undoes (walk_of form nested es c) (walk_of (other form) nested' es c))
           → Back (λ x. with_items c m (on (other form) nested' e es x)) d left done
       go (suc n) c k q ih = step (suc n) (λ f. sym k ∙ f) q ih
-      go zero None k q ih = let z : ◌≡◌ {A = ℕ} 0 1 = cc in absurd (omega arith)
+      go zero None k q ih = grind arith
       go zero (Some m) k q ih = step m (λ f. absurd (omega arith)) q ih
 
-undoes-nested : (levels : ℕ) (form : Form) (run : List ℕ) (id n : ℕ) → Undoes (nested_of levels form run id n) (nested_of levels (other form) run id n)
+undoes-nested : (levels : ℕ) (form : Form) (run : List ℕ) (id n : ℕ)
+    → Undoes (nested_of levels form run id n) (nested_of levels (other form) run id n)
 unfolding Undoes
 undoes-nested zero form run id zero d left done q = nothing _ d left done (λ rest. refl) q
-undoes-nested zero form run id (suc n) d left done q = let z : ◌≡◌ {A = ℕ} 0 1 = cc in absurd (omega arith)
+undoes-nested zero form run id (suc n) d left done q = grind arith
 undoes-nested (suc levels) form run id zero d left done q = nothing _ d left done (λ rest. refl) q
 undoes-nested (suc levels) form run id (suc n) d left done q = go (look_up id run) q (undoes-nested levels form run)
   where
-    go : (w : Result (List Element) Refusal) → through_found w (λ es. times (suc n) (walk_of form (nested_of levels form run) es None) d) ≡ walked left done
+    go : (w : Result (List Element) Refusal)
+        → through_found w (λ es. times (suc n) (walk_of form (nested_of levels form run) es None) d) ≡ walked left done
         → ((t m : ℕ) → Undoes (nested_of levels form run t m) (nested_of levels (other form) run t m))
-        → Back (λ x. through_found w (λ es. times (suc n) (walk_of (other form) (nested_of levels (other form) run) es None) x)) d left done
+        → Back (λ x. through_found w
+        (λ es. times (suc n) (walk_of (other form) (nested_of levels (other form) run) es None) x)) d left done
     go (Ok es) q ih =
-        undoes-times (suc n) (walk_of form (nested_of levels form run) es None) (walk_of (other form) (nested_of levels (other form) run) es None)
+        undoes-times (suc n) (walk_of form (nested_of levels form run) es None)
+        (walk_of (other form) (nested_of levels (other form) run) es None)
         (undoes-walk (nested_of levels form run) (nested_of levels (other form) run) ih form es None) d left done q
-    go (Err r) q ih = let z : ◌≡◌ {A = ℕ} 0 1 = cc in absurd (omega arith)
+    go (Err r) q ih = grind arith
 
 undoes-whole : (form : Form) (run : List ℕ) (id : ℕ) → Undoes (whole_of form run id) (whole_of (other form) run id)
 unfolding Undoes
 undoes-whole form run id d left done q = go (look_up id run) q
   where
-    go : (w : Result (List Element) Refusal) → through_found w (λ es. walk_of form (nested_of 4 form run) es None d) ≡ walked left done
+    go : (w : Result (List Element) Refusal)
+        → through_found w (λ es. walk_of form (nested_of 4 form run) es None d) ≡ walked left done
         → Back (λ x. through_found w (λ es. walk_of (other form) (nested_of 4 (other form) run) es None x)) d left done
-    go (Ok es) q = undoes-walk (nested_of 4 form run) (nested_of 4 (other form) run) (undoes-nested 4 form run) form es None d left done q
-    go (Err r) q = let z : ◌≡◌ {A = ℕ} 0 1 = cc in absurd (omega arith)
+    go (Ok es) q = undoes-walk (nested_of 4 form run) (nested_of 4 (other form) run) (undoes-nested 4 form run)
+        form es None d left done q
+    go (Err r) q = grind arith
 
 -- what one form converts to without rest, the other converts back
-pub there_and_back : (form : Form) (run : List ℕ) (id : ℕ) (d h : List ℕ) → whole_of form run id d ≡ walked [] h → whole_of (other form) run id h ≡ walked [] d
+pub there_and_back : (form : Form) (run : List ℕ) (id : ℕ) (d h : List ℕ) → whole_of form run id d ≡ walked [] h
+    → whole_of (other form) run id h ≡ walked [] d
 unfolding Undoes
 there_and_back form run id d h e =
     let b = undoes-whole form run id d [] h e in
-    ap (whole_of (other form) run id) (sym (append-nil h)) ∙ b.back [] ∙ ap (walked []) (sym (b.splits ∙ append-nil b.front))
+    ap (whole_of (other form) run id) (sym (append-nil h)) ∙ b.back []
+    ∙ ap (walked []) (sym (b.splits ∙ append-nil b.front))
 
 -- from the wire to host form and back to the wire gives the same octets
-pub wire-host-wire : (run : List ℕ) (id : ℕ) (d h : List ℕ) → whole_of Wire run id d ≡ walked [] h → whole_of Host run id h ≡ walked [] d
+pub wire-host-wire : (run : List ℕ) (id : ℕ) (d h : List ℕ) → whole_of Wire run id d ≡ walked [] h
+    → whole_of Host run id h ≡ walked [] d
 wire-host-wire = there_and_back Wire
 
 -- from host form to the wire and back to host form gives the same octets
-pub host-wire-host : (run : List ℕ) (id : ℕ) (d h : List ℕ) → whole_of Host run id h ≡ walked [] d → whole_of Wire run id d ≡ walked [] h
+pub host-wire-host : (run : List ℕ) (id : ℕ) (d h : List ℕ) → whole_of Host run id h ≡ walked [] d
+    → whole_of Wire run id d ≡ walked [] h
 host-wire-host run id d h = there_and_back Host run id h d
 
 -- host form is as long as the data: what is converted and what is left are as many octets as there were
-pub as_long : (form : Form) (run : List ℕ) (id : ℕ) (d left done : List ℕ) → whole_of form run id d ≡ walked left done → length done + length left ≡ length d
+pub as_long : (form : Form) (run : List ℕ) (id : ℕ) (d left done : List ℕ) → whole_of form run id d ≡ walked left done
+    → length done + length left ≡ length d
 as_long form run id d left done e = subst (Even d) e (even-whole form run id d)

@@ -16,7 +16,8 @@ use Rattle.refusal.specs.declared.Refusal.{Refusal}
 use Rattle.dataset.proofs.Walks.{Takes, Even}
 
 -- a walk that takes nothing
-pub stays : (s : List ℕ) (p : ℕ) (write : Bool) (t : List ℕ) → p ≤ length s → Stepped (walked (drop p s) []) (length s) p write t (Ok p) t
+pub stays : (s : List ℕ) (p : ℕ) (write : Bool) (t : List ℕ) → p ≤ length s
+    → Stepped (walked (drop p s) []) (length s) p write t (Ok p) t
 stays s p write t h =
     let e : p ≡ length s - length (drop p s) = simp length-drop (omega arith) in
     record {
@@ -27,28 +28,20 @@ stays s p write t h =
 
 -- a refusal
 pub refuses : (r : Refusal) (size p : ℕ) (write : Bool) (t : List ℕ) → Stepped (stopped r) size p write t (Err r) t
-refuses r size p write t =
-    record {
-      answers = refl;
-      judges = λ _. refl;
-      writes = λ _ left done q. let z : ◌≡◌ {A = ℕ} 0 1 = cc in absurd (omega arith);
-    }
+refuses r size p write t = grind arith
 
 -- what follows a refusal is not walked
-pub halts : (w : Walked) (k : List ℕ → Walked) {size p : ℕ} {r : Refusal} {write : Bool} {t u : List ℕ} → Stepped w size p write t (Err r) u → Stepped (then w k) size p write t (Err r) u
-halts (stopped x) k h = h
-halts (walked left done) k h = let z : ◌≡◌ {A = ℕ} 0 1 = cc h.answers in absurd (omega arith)
+pub halts : (w : Walked) (k : List ℕ → Walked) {size p : ℕ} {r : Refusal} {write : Bool} {t u : List ℕ}
+    → Stepped w size p write t (Err r) u → Stepped (then w k) size p write t (Err r) u
+halts w k h = grind arith
 
 -- what is written behind done
-module _ (s : List ℕ) (p : ℕ) (left done : List ℕ) (write : Bool) (t u v : List ℕ) (r : Result ℕ Refusal) (inside : p ≤ length s) (room : write ≡ true → length s ≤ length t)
+module _ (s : List ℕ) (p : ℕ) (left done : List ℕ) (write : Bool) (t u v : List ℕ) (r : Result ℕ Refusal)
+    (inside : p ≤ length s) (room : write ≡ true → length s ≤ length t)
     (h : Stepped (walked left done) (length s) p write t (Ok (p + length done)) u) where
-  joined : (x : Walked) → Stepped x (length s) (p + length done) write u r v → Stepped (behind done x) (length s) p write t r v
-  joined (stopped y) m =
-      record {
-        answers = m.answers;
-        judges = λ e. m.judges e ∙ h.judges e;
-        writes = λ e l d q. let z : ◌≡◌ {A = ℕ} 0 1 = cc in absurd (omega arith);
-      }
+  joined : (x : Walked) → Stepped x (length s) (p + length done) write u r v
+      → Stepped (behind done x) (length s) p write t r v
+  joined (stopped y) m = grind arith
   joined (walked l d) m =
       record {
         answers = m.answers;
@@ -64,24 +57,29 @@ module _ (s : List ℕ) (p : ℕ) (left done : List ℕ) (write : Bool) (t u v :
       }
 
 -- one walk behind another
-pub onward : (s : List ℕ) (p q : ℕ) (w : Walked) (k : List ℕ → Walked) (write : Bool) (t u v : List ℕ) (r : Result ℕ Refusal) → p ≤ length s → (write ≡ true → length s ≤ length t) → Takes (drop p s) w → Even (drop p s) w
-    → Stepped w (length s) p write t (Ok q) u → Stepped (k (drop q s)) (length s) q write u r v → Stepped (then w k) (length s) p write t r v
-onward s p q (stopped x) k write t u v r inside room takes even h m = let z : ◌≡◌ {A = ℕ} 0 1 = cc h.answers in absurd (omega arith)
+pub onward : (s : List ℕ) (p q : ℕ) (w : Walked) (k : List ℕ → Walked) (write : Bool) (t u v : List ℕ)
+    (r : Result ℕ Refusal) → p ≤ length s → (write ≡ true → length s ≤ length t) → Takes (drop p s) w
+    → Even (drop p s) w
+    → Stepped w (length s) p write t (Ok q) u → Stepped (k (drop q s)) (length s) q write u r v
+    → Stepped (then w k) (length s) p write t r v
+onward s p q (stopped x) k write t u v r inside room takes even h m = grind arith
 onward s p q (walked left done) k write t u v r inside room takes even h m =
     let long : length (drop p s) ≡ length s - p = length-drop p s in
     let at : q ≡ length s - length left = cc h.answers in
     let on : q ≡ p + length done = omega (arith, takes.0) in
     let place : p + (length (drop p s) - length left) ≡ q = omega (arith, takes.0) in
-    let rest : left ≡ drop q s = takes.1 ∙ drop-drop (length (drop p s) - length left) p s ∙ ap (λ (n : ℕ). drop n s) place in
+    let rest : left ≡ drop q s = takes.1 ∙ drop-drop (length (drop p s) - length left) p s
+    ∙ ap (λ (n : ℕ). drop n s) place in
     subst (λ (l : List ℕ). Stepped (behind done (k l)) (length s) p write t r v) (sym rest)
-    (joined s p left done write t u v r inside room (subst (λ (n : ℕ). Stepped (walked left done) (length s) p write t (Ok n) u) on h) (k (drop q s))
+    (joined s p left done write t u v r inside room
+    (subst (λ (n : ℕ). Stepped (walked left done) (length s) p write t (Ok n) u) on h) (k (drop q s))
     (subst (λ (n : ℕ). Stepped (k (drop q s)) (length s) n write u r v) on m))
 
 -- a place behind a walk is no further than the data
-pub step-inside : {w : Walked} {size p q : ℕ} {write : Bool} {t u : List ℕ} → Stepped w size p write t (Ok q) u → q ≤ size
-step-inside {w = stopped r} h = let z : ◌≡◌ {A = ℕ} 0 1 = cc h.answers in absurd (omega arith)
-step-inside {w = walked left done} {size = size} {q = q} h =
-    let e : q ≡ size - length left = cc h.answers in omega arith
+pub step-inside : {w : Walked} {size p q : ℕ} {write : Bool} {t u : List ℕ}
+    → Stepped w size p write t (Ok q) u → q ≤ size
+step-inside {w = stopped r} h = grind arith
+step-inside {w = walked left done} {size = size} {q = q} h = grind arith
 
 -- a walk from p on does what the whole walk does
 abbrev pub Reaches : Walked → List ℕ → ℕ → Bool → List ℕ → Walked → ℕ → List ℕ → Type 0

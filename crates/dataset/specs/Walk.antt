@@ -1,5 +1,6 @@
 -- The walk over a dataset, from the wire to host form and back.
-use Rattle.std.specs.Prelude.{ℕ, zero, suc, ◌≡◌, List, [], ◌∷◌, ◌++◌, reverse, Bool, cond, not, ◌&&◌, ◌||◌, Option, Some, None, Result, Ok, Err, eqb, ltb, length, take, drop}
+use Rattle.std.specs.Prelude.{ℕ, zero, suc, ◌≡◌, List, [], ◌∷◌, ◌++◌, reverse, Bool, cond, not, ◌&&◌, ◌||◌, Option}
+use Rattle.std.specs.Prelude.{Some, None, Result, Ok, Err, eqb, ltb, length, take, drop}
 use Rattle.refusal.specs.Refusal.{◌when◌, first_of, answer, after}
 use Rattle.refusal.specs.declared.Refusal.{Refusal}
 use Rattle.refusal.specs.declared.Refusal.TheVariants as refusal

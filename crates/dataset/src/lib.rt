@@ -8,7 +8,8 @@ ghost use Rattle.std.specs.Result.{result_map_both};
 ghost use Rattle.octets.specs.Octets.{part};
 ghost use Rattle.scalars.specs.Scalars.{parts_of, size};
 ghost use Rattle.dataset.specs.Descriptions.{element_of, look_up, headed};
-ghost use Rattle.dataset.specs.Walk.{number_of, turned, times, counts, count_behind, items_of, nested_of, walk_of, whole_of, Converts};
+ghost use Rattle.dataset.specs.Walk.{number_of, turned, times, counts, count_behind, items_of, nested_of, walk_of};
+ghost use Rattle.dataset.specs.Walk.{whole_of, Converts};
 ghost use Rattle.dataset.specs.Steps.{described_by, element, Stepped};
 
 use octets::Number;
@@ -25,26 +26,14 @@ pub enum Form {
 }
 
 impl Form {
-    // The number in the two octets of s at k.
-    fn two(self, s: &[u8], k: usize) -> u16
-        requires { k + 2 ≤ length s.now }
-        ensures { result ≡ number_of self (part 2 k s.now) }
-    {
-        let pair = [s[k], s[k + 1]];
-        match self {
-            Form::Wire => u16::from_be_bytes(pair),
-            Form::Host => u16::from_le_bytes(pair),
-        }
-    }
-
-    // The number in the four octets of s at k. As one function with `two` it would need a trait over u16 and u32.
-    fn four(self, s: &[u8], k: usize) -> u32
-        requires { k + 4 ≤ length s.now }
-        ensures { result ≡ number_of self (part 4 k s.now) }
+    // The number in the octets of s at k.
+    fn number<N: Number>(self, s: &[u8], k: usize) -> N
+        requires { k + N.WIDTH ≤ length s.now }
+        ensures { N.value result ≡ number_of self (part N.WIDTH k s.now) }
     {
         match self {
-            Form::Wire => u32::big(s, k),
-            Form::Host => u32::little(s, k),
+            Form::Wire => N::big(s, k),
+            Form::Host => N::little(s, k),
         }
     }
 }
@@ -80,6 +69,7 @@ fn look_up(run: &[u32], id: u32) -> Result<&[[u32; 2]], Refusal>
         return Err(Refusal::Description);
     }
     let mut rest = run;
+    // Goes over what is left of the run: an iterator would be a struct with an impl, longer than this loop.
     while !rest.is_empty() {
         let (head, elements, more) = description(rest).ok_or(Refusal::Description)?;
         if head == id {
@@ -90,18 +80,22 @@ fn look_up(run: &[u32], id: u32) -> Result<&[[u32; 2]], Refusal>
     Err(Refusal::NotDescribed)
 }
 
-// Data of a form and the descriptions that they are walked by: judged, or written too. A place in the source is a
-// number since `scalars::turn` writes at the same place of the target; `room` stands with each method since a struct
-// with a const bool takes no ghost field.
+// Data of a form, the descriptions that they are walked by, and how many levels are left: judged, or written too.
+// `in_source` and `room` stand with each method: both speak of arguments, a place and a target, that no field has.
+// Tried: no ghost field stands beside a const bool, since the check cannot state such an item.
+// WRITE is a const: an Option of a target would be opened and lent on anew at each level, where it never changes.
+// Source and target are no slices from the place on: `scalars::turn` writes at the same place of both, and where the
+// data are only judged, the target may be shorter.
 #[derive(Clone, Copy)]
 struct Walk<'a, const WRITE: bool> {
     form: Form,
     run: &'a [u32],
     source: &'a [u8],
+    levels: usize,
 }
 
 impl<const WRITE: bool> Walk<'_, WRITE> {
-    // n scalars of a type from p on: the place behind them.
+    // n scalars of a type from p on: the place behind them. t is a number of the run, which may say any (`parts_of`).
     fn scalars(&self, t: u32, n: u32, p: usize, target: &mut [u8]) -> Result<usize, Refusal>
         requires in_source { p ≤ length self.now.source.now }
         requires room { WRITE ≡ true → length self.now.source.now ≤ length target.old }
@@ -120,7 +114,7 @@ impl<const WRITE: bool> Walk<'_, WRITE> {
         Ok(p + long)
     }
 
-    // The value of a single UINT8, UINT16 or UINT32 at p, which a count of 0 behind it takes.
+    // The value of a single UINT8, UINT16 or UINT32 at p, which a count of 0 behind it takes. t is a number of the run.
     fn count_behind(&self, t: u32, count: u32, p: usize) -> Option<u32>
         requires { count ≡ 1 → counts t ≡ true → p + size (parts_of t) ≤ length self.now.source.now }
         ensures { result ≡ count_behind self.now.form (element t count) (drop p self.now.source.now) }
@@ -130,87 +124,65 @@ impl<const WRITE: bool> Walk<'_, WRITE> {
         }
         match t {
             8 => Some(u32::from(self.source[p])),
-            9 => Some(u32::from(self.form.two(self.source, p))),
-            10 => Some(self.form.four(self.source, p)),
+            9 => Some(u32::from(self.form.number::<u16>(self.source, p))),
+            10 => Some(self.form.number(self.source, p)),
             _ => None,
         }
     }
 
-    // n datasets of an id from a place on, with so many levels left: the place behind them.
+    // n datasets of an id from a place on: the place behind them.
     #[cycle(walk)]
-    fn datasets(
-        &self,
-        levels: usize,
-        id: u32,
-        n: u32,
-        from: usize,
-        target: &mut [u8],
-    ) -> Result<usize, Refusal>
+    fn datasets(&self, id: u32, n: u32, from: usize, target: &mut [u8]) -> Result<usize, Refusal>
         requires in_source { from ≤ length self.now.source.now }
         requires room { WRITE ≡ true → length self.now.source.now ≤ length target.old }
-        ensures { Stepped (nested_of levels self.now.form self.now.run.now id n (drop from self.now.source.now))
-            (length self.now.source.now) from WRITE target.old result target.new }
+        ensures { Stepped (nested_of self.now.levels self.now.form self.now.run.now id n
+            (drop from self.now.source.now)) (length self.now.source.now) from WRITE target.old result target.new }
     {
         if n == 0 {
             return Ok(from);
         }
-        if levels == 0 {
+        if self.levels == 0 {
             return Err(Refusal::Nesting);
         }
         let elements = look_up(self.run, id)?;
+        let inner = Walk {
+            levels: self.levels - 1,
+            ..*self
+        };
         let mut p = from;
         for _ in 0..n {
-            p = self.dataset(levels - 1, elements, p, target)?;
+            p = inner.dataset(elements, p, target)?;
         }
         Ok(p)
     }
 
-    // n items of a type from a place on, scalars or datasets: the place behind them.
-    #[cycle(walk)]
-    fn items(
-        &self,
-        levels: usize,
-        t: u32,
-        n: u32,
-        from: usize,
-        target: &mut [u8],
-    ) -> Result<usize, Refusal>
-        requires in_source { from ≤ length self.now.source.now }
-        requires room { WRITE ≡ true → length self.now.source.now ≤ length target.old }
-        ensures { Stepped (items_of (nested_of levels self.now.form self.now.run.now) t n
-            (drop from self.now.source.now)) (length self.now.source.now) from WRITE target.old result target.new }
-    {
-        if t < 17 {
-            self.scalars(t, n, from, target)
-        } else {
-            self.datasets(levels, t, n, from, target)
-        }
-    }
-
-    // A dataset of these elements from a place on, with so many levels left below: the place behind it.
+    // A dataset of these elements from a place on: the place behind it.
     #[cycle(walk)]
     fn dataset(
         &self,
-        levels: usize,
         elements: &[[u32; 2]],
         from: usize,
         target: &mut [u8],
     ) -> Result<usize, Refusal>
         requires in_source { from ≤ length self.now.source.now }
         requires room { WRITE ≡ true → length self.now.source.now ≤ length target.old }
-        ensures { Stepped (walk_of self.now.form (nested_of levels self.now.form self.now.run.now)
+        ensures { Stepped (walk_of self.now.form (nested_of self.now.levels self.now.form self.now.run.now)
             (map element_of elements.now) None (drop from self.now.source.now))
             (length self.now.source.now) from WRITE target.old result target.new }
     {
         let mut p = from;
         let mut before = None;
         for [t, count] in elements {
-            let n = if *count == 0 {
-                before.ok_or(Refusal::Description)?
+            let n = (*count != 0)
+                .then_some(*count)
+                .or(before)
+                .ok_or(Refusal::Description)?;
+            // t stays the run's number: below 17 a scalar's type, else a dataset's id (`items_of`).
+            let q = if *t < 17 {
+                self.scalars(*t, n, p, target)
             } else {
-                *count
-            };
-            let q = self.items(levels, *t, n, p, target)?;
+                self.datasets(*t, n, p, target)
+            }?;
             before = self.count_behind(*t, *count, p);
             p = q;
         }
@@ -229,12 +201,25 @@ pub fn convert(
 ) -> Result<usize, Refusal>
     ensures { Converts (whole_of form run.now id source.now) (length source.now) target.old result target.new }
 {
-    let p = Walk::<false> { form, run, source }.datasets(5, id, 1, 0, target)?;
+    let levels = 5;
+    let judging = Walk::<false> {
+        form,
+        run,
+        source,
+        levels,
+    };
+    let p = judging.datasets(id, 1, 0, target)?;
     if p != source.len() {
         return Err(Refusal::DataLength);
     }
     if target.len() < p {
         return Err(Refusal::DataTarget);
     }
-    Walk::<true> { form, run, source }.datasets(5, id, 1, 0, target)
+    let writing = Walk::<true> {
+        form,
+        run,
+        source,
+        levels,
+    };
+    writing.datasets(id, 1, 0, target)
 }

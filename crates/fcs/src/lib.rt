@@ -27,6 +27,7 @@ fn step(x: u32) -> u32
 }
 
 // The register begun at `begun`, after the octets of s, one a turn.
+// `begun` and `s` stand in three functions: a struct of the two would be made by each caller and taken apart by each.
 fn by_ones(begun: u32, s: &[u8]) -> u32
     ensures { result ≡ register begun s.now }
 {

@@ -2,12 +2,12 @@
 // line on standard output.
 #![tactic(auto)]
 
-ghost use Rattle.std.specs.Prelude.{◌≤◌};
+ghost use Rattle.std.specs.Prelude.{◌≤◌, length};
 
 use answer::Room;
 use line::input::{self, Program};
 use line::output;
-use listing::{Listing, Outcome, Totals};
+use listing::{Listing, Outcome};
 use std::io::{self, Stdout};
 
 // The longest line of the form: sender, destination, time and their spaces, and 2,944 digits.
@@ -20,6 +20,7 @@ const BLOCK: usize = 65_536;
 const ROOM: usize = 65_792;
 
 // Line 1 is awaited, frames are, or line 1 was bad and nothing is.
+// An enum, matched at a line and at the end: a closure for each stage would hand out the next one, in a box.
 #[derive(Clone, Copy)]
 enum Stage {
     Head,
@@ -27,40 +28,44 @@ enum Stage {
     Over,
 }
 
-// The lines answered after line 1, the store of slot 0, a datagram's octets, and the answers that wait to be written.
+// The lines answered after line 1, the store of slot 0, a datagram's octets, and the room with the answers that wait to
+// be written: fixed memory.
 #[derive(Drop)]
-struct Lister {
+struct Lister<'a> {
     to: Stdout,
     stage: Stage,
     lines: u64,
     store: [u8; 1432],
     buffer: [u8; 1472],
-    out: [u8; ROOM],
-    waiting: usize,
-    ghost within: { waiting ≤ 65_792 },
+    room: Room<'a>,
+    ghost within: { room.at ≤ length room.octets.now },
 }
 
-impl Lister {
+// The answers that wait in a room are written out where they are more than some number.
+fn write_out(to: Stdout, room: &mut Room, most: usize) -> io::Result<()>
+    requires { room.old.at ≤ length room.old.octets.now }
+    ensures { room.new.at ≤ length room.new.octets.now }
+{
+    let waiting = room.at;
+    room.at = output::flush(to, room.octets, waiting, most)?;
+    Ok(())
+}
+
+impl<'a> Lister<'a> {
     // Before line 1.
-    fn begin(to: Stdout) -> Lister {
+    fn begin(to: Stdout, out: &'a mut [u8]) -> Lister<'a> {
         Lister {
             to,
             stage: Stage::Head,
             lines: 0,
             store: [0; 1432],
             buffer: [0; 1472],
-            out: [0; ROOM],
-            waiting: 0,
+            room: Room { octets: out, at: 0 },
         }
     }
 
     fn say_bad_start(&mut self) {
-        let mut room = Room {
-            octets: &mut self.out,
-            at: self.waiting,
-        };
-        room.text(b"bad start\n");
-        self.waiting = room.at;
+        self.room.text(b"bad start\n");
     }
 
     // Line 1 gives the local counters.
@@ -74,28 +79,15 @@ impl Lister {
     }
 
     // What became of the next line is answered.
+    #[tactic(auto, using(answer::proofs::Rooms::inside))]
     fn reply(&mut self, outcome: Outcome) -> io::Result<()> {
         self.lines = self.lines.wrapping_add(1);
-        let mut room = Room {
-            octets: &mut self.out,
-            at: self.waiting,
-        };
-        outcome.put(self.lines, &mut room);
-        self.waiting = room.at;
-        self.waiting = output::flush(self.to, &self.out, self.waiting, BLOCK)?;
-        Ok(())
+        outcome.put(self.lines, &mut self.room);
+        write_out(self.to, &mut self.room, BLOCK)
     }
 
-    fn put_total(&mut self, totals: Totals) {
-        let mut room = Room {
-            octets: &mut self.out,
-            at: self.waiting,
-        };
-        totals.put(&mut room);
-        self.waiting = room.at;
-    }
-
-    // The input is over: a last line without LF is bad, and the total follows.
+    // The input is over: a last line without LF is bad, and the total follows. By the stage, as in `take_line`.
+    #[tactic(auto, using(answer::proofs::Rooms::inside))]
     fn finish(&mut self, is_begun: bool) -> io::Result<()> {
         match self.stage {
             Stage::Head => self.say_bad_start(),
@@ -103,7 +95,7 @@ impl Lister {
                 if is_begun {
                     self.reply(Outcome::BadLine)?;
                 }
-                self.put_total(listing.totals);
+                listing.totals.put(&mut self.room);
             }
             Stage::Over => {}
         }
@@ -111,7 +103,8 @@ impl Lister {
     }
 }
 
-impl Program for Lister {
+impl Program for Lister<'_> {
+    // By the stage, an enum for the reason that stands there.
     fn take_line(&mut self, s: &[u8]) -> io::Result<()> {
         match &mut self.stage {
             Stage::Head => self.take_head(s),
@@ -124,20 +117,21 @@ impl Program for Lister {
         Ok(())
     }
 
+    // By the stage, as in `take_line`.
     fn is_over(&self) -> bool {
         matches!(self.stage, Stage::Over)
     }
 
     fn flush(&mut self) -> io::Result<()> {
-        self.waiting = output::flush(self.to, &self.out, self.waiting, 0)?;
-        Ok(())
+        write_out(self.to, &mut self.room, 0)
     }
 }
 
 fn main(rt: HostRuntime) -> io::Result<()> {
     let mut block = [0u8; BLOCK];
     let mut line = [0u8; LINE];
-    let mut lister = Lister::begin(rt.stdout());
+    let mut out = [0u8; ROOM];
+    let mut lister = Lister::begin(rt.stdout(), &mut out);
     let is_begun = input::take_lines(rt.stdin(), &mut lister, &mut block, &mut line)?;
     lister.finish(is_begun)
 }

@@ -38,7 +38,7 @@ pub fn number(s: &[u8]) -> u64
     c
 }
 
-// The octet that two digits write.
+// The octet that two digits write: data, and no kind. By `value`, since std's `to_digit` takes small letters too.
 fn joined(a: u8, b: u8) -> u8
     requires { (digit a < 16) × (digit b < 16) }
     ensures { result ≡ 16 * digit a + digit b }
@@ -57,7 +57,7 @@ pub fn decode(digits: &[u8], target: &mut [u8])
     }
 }
 
-// The capital digit of a value.
+// The capital digit of a value: text, and no kind. Std's `from_digit` writes small letters.
 fn capital(d: u8) -> u8
     requires { d < 16 }
     ensures { result ≡ digit_of d }
@@ -66,6 +66,7 @@ fn capital(d: u8) -> u8
 }
 
 // n digits of x written into target at k.
+// The place stands beside the target as in `octets::copy_into`: `answer: Room` needs a `put` behind what it holds.
 pub fn put_number(target: &mut [u8], k: usize, n: usize, x: u64)
     requires { k + n ≤ length target.old }
     ensures { target.new ≡ put k (digits_of n x) target.old }
@@ -77,7 +78,7 @@ pub fn put_number(target: &mut [u8], k: usize, n: usize, x: u64)
     }
 }
 
-// The digits of octets written into target at k.
+// The digits of octets written into target at k, which stands beside the target as in `put_number`.
 pub fn put_octets(target: &mut [u8], k: usize, s: &[u8])
     requires { k + 2 * length s.now ≤ length target.old }
     ensures { target.new ≡ put k (hex_of s.now) target.old }

@@ -1,12 +1,11 @@
--- Demand 3 whole: each table's own theorem, and the laws that other tables' calls leave it as it is and that two models side by side agree where each does.
+-- Demand 3 whole: each table's own theorem, and the laws that other tables' calls leave it as it is and that two models
+-- side by side agree where each does.
 use mathlib.Core.Path.{◌≡◌, refl}
-use mathlib.Core.Logic.{◌⊎◌, inl, inr}
 use mathlib.Core.Bool.{Bool, true, false}
 use Prim.Native.Nat.{ℕ, ◌≤◌}
 use lib.ListN.{length, replicate, length-replicate}
 use mathlib.Core.List.{List, [], ◌∷◌}
 use native.Mathlib.Omega.{arith}
-use mathlib.Core.Option.{none}
 use Rattle.tables.specs.Trace.{Outcome, trace, run}
 use Rattle.tables.proofs.Trace.{same-trace}
 use Rattle.tables.proofs.View.{Stands, same_view, owns, run-part}
@@ -25,49 +24,16 @@ use Rattle.isolation.specs.Beside.{Slots}
 use Rattle.session_table.specs.Table.{Tables}
 use Rattle.isolation.proofs.Watched as session-watch
 use Rattle.isolation.proofs.Beside as sessions-beside
-use Rattle.isolation.specs.Isolation.{Call, process, message, processed, Both, both, Stack, step, empty, process_call, message_call, of_process, of_messages, SlotAlone, SessionAlone, seen_by, side_by_side, Isolation}
+use Rattle.isolation.specs.Isolation.{Call, process, message, processed, Both, both, Stack, step, empty, of_process}
+use Rattle.isolation.specs.Isolation.{of_messages, SlotAlone, SessionAlone, seen_by, side_by_side, Isolation}
 
 process-stands : Stands of_process step pd.step
 unfolding both
-process-stands =
-    record {
-      part-whole = λ t. refl;
-      own-call = λ c. refl;
-      sorts = sorts;
-      answers = λ c s. refl;
-      leaves = λ c s. refl;
-      whole-leaves = λ c t. refl;
-      others = others;
-    }
-  where
-    sorts : (d : Call) → (process_call d ≡ none) ⊎ ((c : pd.Call) × (d ≡ process c))
-    sorts (process c) = inr (c, refl)
-    sorts (message c) = inl refl
-
-    others : (d : Call) (s : Stack) → process_call d ≡ none → (step d s).after.subscriptions ≡ s.subscriptions
-    others (process c) s e = let z : ◌≡◌ {A = ℕ} 0 1 = cc in absurd (omega arith)
-    others (message c) s e = refl
+process-stands = grind arith
 
 messages-stand : Stands of_messages step md.step
 unfolding both
-messages-stand =
-    record {
-      part-whole = λ t. refl;
-      own-call = λ c. refl;
-      sorts = sorts;
-      answers = λ c s. refl;
-      leaves = λ c s. refl;
-      whole-leaves = λ c t. refl;
-      others = others;
-    }
-  where
-    sorts : (d : Call) → (message_call d ≡ none) ⊎ ((c : md.Call) × (d ≡ message c))
-    sorts (process c) = inl refl
-    sorts (message c) = inr (c, refl)
-
-    others : (d : Call) (s : Stack) → message_call d ≡ none → (step d s).after.messages ≡ s.messages
-    others (process c) s e = refl
-    others (message c) s e = let z : ◌≡◌ {A = ℕ} 0 1 = cc in absurd (omega arith)
+messages-stand = grind arith
 
 processed-same : (a b : pd.Answer) → processed a ≡ processed b → a ≡ b
 processed-same a b e = cc
@@ -78,65 +44,88 @@ slot-alone n octets m i before after q time k e =
     let s : Stack = run step before (empty n octets m i) in
     let c = pd.subscribe q time in
     let own = owns of_process step pd.step process-stands before in
-    let same : s.subscriptions ≡ run pd.step own (pd.empty_table n octets) = run-part of_process step pd.step process-stands before (empty n octets m i) in
-    let grants : (pd.step c s.subscriptions).answer ≡ pd.granted k = processed-same (pd.step c s.subscriptions).answer (pd.granted k) e in
-    let g : (slot.slot_at k (pd.step c s.subscriptions).after ≡ (pd.step c (pd.empty_table 1 slot_octets)).after) × slot-watch.Held k q time (pd.step c s.subscriptions).after =
-    rw same (slot-watch.granted-held n octets own q time k (rw same at grants)) in
-    (g.0, rw g.0 at (same_view of_process step (slot.slot_watch k q.filter) process-stands (slot-watch.Held k q time) (slot-watch.follows k q time) after (step (process c) s).after g.1))
+    let same : s.subscriptions ≡ run pd.step own (pd.empty_table n octets) =
+    run-part of_process step pd.step process-stands before (empty n octets m i) in
+    let grants : (pd.step c s.subscriptions).answer ≡ pd.granted k =
+    processed-same (pd.step c s.subscriptions).answer (pd.granted k) e in
+    let g : (slot.slot_at k (pd.step c s.subscriptions).after ≡ (pd.step c (pd.empty_table 1 slot_octets)).after)
+    × slot-watch.Held k q time (pd.step c s.subscriptions).after =
+    rw same (slot-watch.granted-held n octets own q time k (rw same at grants)) in (
+      g.0,
+      rw g.0 at (same_view of_process step (slot.slot_watch k q.filter) process-stands (slot-watch.Held k q time)
+          (slot-watch.follows k q time) after (step (process c) s).after g.1),
+    )
 
-session-alone : (n octets m i : ℕ) (before after : List Call) → SessionAlone (run step before (empty n octets m i)) after
+session-alone : (n octets m i : ℕ) (before after : List Call)
+    → SessionAlone (run step before (empty n octets m i)) after
 unfolding both
 session-alone n octets m i before after c k e =
     let s : Stack = run step before (empty n octets m i) in
     let id = session.identifier c in
     let own = owns of_messages step md.step messages-stand before in
-    let same : s.messages ≡ run md.step own (md.empty_tables m i) = run-part of_messages step md.step messages-stand before (empty n octets m i) in
+    let same : s.messages ≡ run md.step own (md.empty_tables m i) =
+    run-part of_messages step md.step messages-stand before (empty n octets m i) in
     let alone = md.step c (record { listeners = s.messages.listeners; sessions = free_session ∷ [] }) in
     let g : ((md.step c s.messages).answer ≡ session.numbered k alone.answer)
-    × (session.slot_at k (md.step c s.messages).after ≡ session.slot_at 0 alone.after) × session-watch.Held k id (md.step c s.messages).after =
-    rw same (session-watch.opened-held m i own c k (rw same at e)) in
-    (g.0, g.1, rw g.1 at (same_view of_messages step (session.session_watch k id) messages-stand (session-watch.Held k id) (session-watch.follows k id) after (step (message c) s).after g.2))
+    × (session.slot_at k (md.step c s.messages).after ≡ session.slot_at 0 alone.after)
+    × session-watch.Held k id (md.step c s.messages).after =
+    rw same (session-watch.opened-held m i own c k (rw same at e)) in (
+      g.0,
+      g.1,
+      rw g.1 at (same_view of_messages step (session.session_watch k id) messages-stand
+          (session-watch.Held k id) (session-watch.follows k id) after (step (message c) s).after g.2),
+    )
 
 -- ---- side by side
 
 -- two models beside one another agree with two tables where each agrees with its own
-module _ {S T : Type 0} (f : pd.Call → S → Outcome pd.Answer S) (g : md.Call → T → Outcome md.Answer T) (seen_s : S → pd.Table) (seen_t : T → Tables) (GoodS : S → Type 0) (GoodT : T → Type 0)
-    (keeps_s : (c : pd.Call) (s : S) → GoodS s → GoodS (f c s).after) (keeps_t : (c : md.Call) (t : T) → GoodT t → GoodT (g c t).after)
-    (agrees_s : (c : pd.Call) (s : S) → GoodS s → pd.step c (seen_s s) ≡ record { answer = (f c s).answer; after = seen_s (f c s).after })
-    (agrees_t : (c : md.Call) (t : T) → GoodT t → md.step c (seen_t t) ≡ record { answer = (g c t).answer; after = seen_t (g c t).after })
+module _ {S T : Type 0} (f : pd.Call → S → Outcome pd.Answer S) (g : md.Call → T → Outcome md.Answer T)
+    (seen_s : S → pd.Table) (seen_t : T → Tables) (GoodS : S → Type 0) (GoodT : T → Type 0)
+    (keeps_s : (c : pd.Call) (s : S) → GoodS s → GoodS (f c s).after)
+    (keeps_t : (c : md.Call) (t : T) → GoodT t → GoodT (g c t).after)
+    (agrees_s : (c : pd.Call) (s : S) → GoodS s
+    → pd.step c (seen_s s) ≡ record { answer = (f c s).answer; after = seen_s (f c s).after })
+    (agrees_t : (c : md.Call) (t : T) → GoodT t
+    → md.step c (seen_t t) ≡ record { answer = (g c t).answer; after = seen_t (g c t).after })
   where
     abbrev Good : Both S T → Type 0
     Good b = GoodS b.subscriptions × GoodT b.messages
 
     keeps : (c : Call) (b : Both S T) → Good b → Good (both f g c b).after
     unfolding both
-    keeps (process c) b h = (keeps_s c b.subscriptions h.0, h.1)
-    keeps (message c) b h = (h.0, keeps_t c b.messages h.1)
+    keeps c b h = grind arith
 
-    agrees : (c : Call) (b : Both S T) → Good b → step c (seen_by seen_s seen_t b) ≡ record { answer = (both f g c b).answer; after = seen_by seen_s seen_t (both f g c b).after }
+    agrees : (c : Call) (b : Both S T) → Good b → step c (seen_by seen_s seen_t b)
+        ≡ record { answer = (both f g c b).answer; after = seen_by seen_s seen_t (both f g c b).after }
     unfolding both
-    agrees (process c) b h = rw (agrees_s c b.subscriptions h.0) refl
-    agrees (message c) b h = rw (agrees_t c b.messages h.1) refl
+    agrees c b h = grind arith
 
-    same-both : (calls : List Call) (b : Both S T) → Good b → trace step (λ s. s) calls (seen_by seen_s seen_t b) ≡ trace (both f g) (seen_by seen_s seen_t) calls b
+    same-both : (calls : List Call) (b : Both S T) → Good b
+        → trace step (λ s. s) calls (seen_by seen_s seen_t b) ≡ trace (both f g) (seen_by seen_s seen_t) calls b
     same-both calls b h = same-trace step (both f g) (seen_by seen_s seen_t) Good keeps agrees calls b h
 
-side-by-side : (n octets m i : ℕ) (calls : List Call) → trace step (λ s. s) calls (empty n octets m i) ≡ side_by_side n octets m i calls
+side-by-side : (n octets m i : ℕ) (calls : List Call)
+    → trace step (λ s. s) calls (empty n octets m i) ≡ side_by_side n octets m i calls
 side-by-side n octets m i calls = go (pd.fits n octets) refl
   where
     GoodT : Slots → Type 0
     GoodT s = sessions-beside.Good s.slots
 
-    go : (b : Bool) → pd.fits n octets ≡ b → trace step (λ s. s) calls (empty n octets m i) ≡ side_by_side n octets m i calls
+    go : (b : Bool) → pd.fits n octets ≡ b
+        → trace step (λ s. s) calls (empty n octets m i) ≡ side_by_side n octets m i calls
     go true e =
         let fit = fits-means n octets e in
         rw (e, fit.1, ← slots-beside.joined-empty n, ← sessions-beside.joined-empty m i)
-        (same-both slots.beside sessions.beside slots.joined sessions.joined (λ ss. length ss ≤ 32) GoodT slots-beside.keeps sessions-beside.keeps slots-beside.agrees sessions-beside.agrees calls
-        (record { subscriptions = replicate n slots.free; messages = sessions.empty_slots m i }) (rw (length-replicate n slots.free) fit.0, sessions-beside.good-empty i))
+        (same-both slots.beside sessions.beside slots.joined sessions.joined (λ ss. length ss ≤ 32)
+        GoodT slots-beside.keeps sessions-beside.keeps slots-beside.agrees sessions-beside.agrees calls
+        (record { subscriptions = replicate n slots.free; messages = sessions.empty_slots m i })
+        (rw (length-replicate n slots.free) fit.0, sessions-beside.good-empty i))
     go false e =
         rw (e, ← sessions-beside.joined-empty m i)
-        (same-both slots.refusing sessions.beside (λ t. t) sessions.joined slots-beside.Refused GoodT (λ c t h. h) sessions-beside.keeps slots-beside.refuses sessions-beside.agrees calls
-        (record { subscriptions = pd.empty_table n octets; messages = sessions.empty_slots m i }) (simp length-replicate e, sessions-beside.good-empty i))
+        (same-both slots.refusing sessions.beside (λ t. t) sessions.joined slots-beside.Refused GoodT (λ c t h. h)
+        sessions-beside.keeps slots-beside.refuses sessions-beside.agrees calls
+        (record { subscriptions = pd.empty_table n octets; messages = sessions.empty_slots m i })
+        (simp length-replicate e, sessions-beside.good-empty i))
 
 pub isolation : Isolation
 isolation = record { side-by-side = side-by-side; slot-alone = slot-alone; session-alone = session-alone }

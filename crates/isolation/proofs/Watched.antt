@@ -15,7 +15,7 @@ use lib.Seq.{get_or-set_same, get_or-set_other}
 use Rattle.std.specs.Prelude.{Ok, Err, Result}
 use Rattle.refusal.specs.Refusal.{first_of}
 use Rattle.refusal.specs.declared.Refusal.{Refusal}
-use Rattle.refusal.specs.declared.Refusal.TheVariants.{SessionInUse, NoSlot, NoFreeSlot, NoSession, NoFreeSession}
+use Rattle.refusal.specs.declared.Refusal.TheVariants.{SessionInUse, NoFreeSlot, NoFreeSession}
 use Rattle.md.specs.Md.{session_id_of}
 use Rattle.md.specs.Uri.{equal}
 use Rattle.arrival.specs.declared.Arrival.{Arrival}
@@ -23,20 +23,28 @@ use Rattle.tables.specs.Lists.{any, lowest, grant, at_slot}
 use Rattle.tables.specs.Trace.{Outcome, run}
 use Rattle.tables.specs.Watch.{step_if, answer_if}
 use Rattle.tables.proofs.Watch.{Follows, same-watch}
-use Rattle.tables.proofs.Lists.{eqb_same, eqb-other, lowest-is, lowest-only, fact-set, any_false, grant-leaves}
+use Rattle.tables.proofs.Lists.{eqb-other, lowest-is, lowest-only, fact-set, any_false, grant-leaves}
 use Rattle.session.specs.declared.Listener.{Listener}
 use Rattle.session.specs.declared.Session.{Session}
 use Rattle.session.specs.declared.SessionState.{SessionState}
 use Rattle.session.specs.declared.SessionState.TheVariants.{WaitingForReply, WithUser}
 use Rattle.session_table.specs.Table.{Tables}
 use Rattle.session.specs.Listener as Listeners
-use Rattle.session.specs.Session.{free_session, is_free, waits_for_reply, owes_confirm, is_with_user, waits_for_confirm, has, code_of, expired}
+use Rattle.session.specs.Session.{free_session, is_free, waits_for_reply, owes_confirm, is_with_user, waits_for_confirm}
+use Rattle.session.specs.Session.{has, code_of, expired}
 use Rattle.session.specs.Session.{can_take, answered, is_reply}
 use Rattle.session.specs.declared.Kind.TheVariants.{Mn, Mr, Mp, Mq, Mc, Me}
-use Rattle.session_table.specs.Table.{Call, listen, unlisten, calling, telegram, reply, confirm, time_check, Answer, listening, freed, opened, requested, replied, confirmed, refused, refused_plain, listen_checks, earlier, unlistened, Heard, Judged, refusal, passed, judged, judged_by, heard_of, md_checks, Kind, kind_of, opening, taken_at, taking, ended, owing, at_session, with_sessions, notifying, requesting, arriving, step, empty_tables}
-use Rattle.isolation.specs.Alone.{slot_at, fed, heard, heard_alone, numbered, session_watch, opened_at, identifier, concerns, own_telegram, OneSession}
-use Rattle.isolation.proofs.Identifiers.{and_left, equal-same, equal-refl}
-use Rattle.isolation.proofs.Kept.{Kept, kept-own, kept-other, has-busy, same_id, kept-ended, kept-owing, kept-answered, kept_at, kept-expired}
+use Rattle.session_table.specs.Table.{Call, listen, unlisten, calling, telegram, reply, confirm, time_check, Answer}
+use Rattle.session_table.specs.Table.{listening, opened, requested, replied, confirmed, refused, refused_plain}
+use Rattle.session_table.specs.Table.{listen_checks, earlier, Heard, Judged, refusal, passed, judged, judged_by}
+use Rattle.session_table.specs.Table.{heard_of, md_checks, Kind, kind_of, opening, taken_at, taking, ended, owing}
+use Rattle.session_table.specs.Table.{at_session, with_sessions, notifying, requesting, arriving, step, empty_tables}
+use Rattle.isolation.specs.Alone.{slot_at, fed, heard, heard_alone, numbered, session_watch, opened_at, identifier}
+use Rattle.isolation.specs.Alone.{concerns, own_telegram, OneSession}
+use Rattle.std.proofs.lemmas.Bool.{and_parts, eqb-true}
+use Rattle.isolation.proofs.Identifiers.{equal-same, equal-refl}
+use Rattle.isolation.proofs.Kept.{Kept, kept-own, kept-other, has-busy, same_id, kept-ended, kept-owing, kept-answered}
+use Rattle.isolation.proofs.Kept.{kept_at, kept-expired}
 
 pub record Has (k : ℕ) (id : List ℕ) (xs : List Session) : Type 0 where
   lt : k < length xs
@@ -76,12 +84,15 @@ module _ (k : ℕ) (id : List ℕ) where
     slot : get_or ys k free_session ≡ get_or xs k free_session
     still : Has k id ys
 
-  opening-leaves : (given : ℕ → Answer) (full : Answer) (i : List ℕ) (state : SessionState) (xs : List Session) → is_free state ≡ false → Has k id xs
+  opening-leaves : (given : ℕ → Answer) (full : Answer) (i : List ℕ) (state : SessionState) (xs : List Session)
+      → is_free state ≡ false → Has k id xs
       → Leaves xs (opening given full i state xs).after
   unfolding grant has
   opening-leaves given full i state xs b h =
       record {
-        slot = grant-leaves is_free_session free_session (cond (any (has i) xs) (some (refused_plain SessionInUse)) none) full given y xs k (has-busy id (get_or xs k free_session) h.own) (lowest is_free_session xs) refl;
+        slot =
+            grant-leaves is_free_session free_session (cond (any (has i) xs) (some (refused_plain SessionInUse)) none)
+            full given y xs k (has-busy id (get_or xs k free_session) h.own) (lowest is_free_session xs) refl;
         still = go (any (has i) xs) refl (lowest is_free_session xs) refl;
       }
     where
@@ -93,51 +104,64 @@ module _ (k : ℕ) (id : List ℕ) where
       go true e o l = h
       go false e none l = h
       go false e (some j) l =
-          other xs h j y (λ p. false≢true (sym (has-busy id (get_or xs k free_session) h.own) ∙ rw p (lowest-is is_free_session free_session xs j l).1))
+          other xs h j y (λ p. false≢true (sym (has-busy id (get_or xs k free_session) h.own)
+          ∙ rw p (lowest-is is_free_session free_session xs j l).1))
           (foreign (any_false (has i) free_session xs k e refl))
         where
           foreign : has i (get_or xs k free_session) ≡ false → has id y ≡ false
           foreign n = by (equal i id) refl
             where
               by : (c : Bool) → equal i id ≡ c → has id y ≡ false
-              by true q = absurd (false≢true (sym n ∙ ap (λ z. has z (get_or xs k free_session)) (equal-same i id q) ∙ h.own))
+              by true q =
+                  absurd (false≢true (sym n ∙ ap (λ z. has z (get_or xs k free_session)) (equal-same i id q) ∙ h.own))
               by false q = rw (b, q) refl
 
   -- a telegram of slot k's identifier is taken there or nowhere
-  mine : (in' : SessionState → Bool) (xs : List Session) → Has k id xs → lowest (can_take in' id) xs ≡ cond (can_take in' id (get_or xs k free_session)) (some k) none
+  mine : (in' : SessionState → Bool) (xs : List Session) → Has k id xs
+      → lowest (can_take in' id) xs ≡ cond (can_take in' id (get_or xs k free_session)) (some k) none
   mine in' xs h = lowest-only (can_take in' id) free_session xs k h.lt (λ j m. rw (h.unique j m) refl)
 
   -- one of another identifier elsewhere
-  theirs : (in' : SessionState → Bool) (f : Session → Session) (i : List ℕ) (status : ℤ) (xs : List Session) → Has k id xs → equal id i ≡ false
-      → ((x : Session) → is_free x.state ≡ false → Kept x (f x)) → (o : Option ℕ) → lowest (can_take in' i) xs ≡ o → Leaves xs (taken_at o f status xs).after
+  theirs : (in' : SessionState → Bool) (f : Session → Session) (i : List ℕ) (status : ℤ) (xs : List Session)
+      → Has k id xs → equal id i ≡ false
+      → ((x : Session) → is_free x.state ≡ false → Kept x (f x)) → (o : Option ℕ) → lowest (can_take in' i) xs ≡ o
+      → Leaves xs (taken_at o f status xs).after
   theirs in' f i status xs h e kept none l = record { slot = refl; still = h }
   theirs in' f i status xs h e kept (some j) l =
       let x : Session = get_or xs j free_session in
-      let has_i : has i x ≡ true = and_left (has i x) (in' x.state) (lowest-is (can_take in' i) free_session xs j l).1 in
+      let has_i : has i x ≡ true =
+      (and_parts (has i x) (in' x.state) (lowest-is (can_take in' i) free_session xs j l).1).0 in
       let n : k ≢ j = λ p. apart (rw (sym p) at has_i) in
       record {
         slot = get_or-set_other xs j k (f x) free_session n;
-        still = other xs h j (f x) n (kept-other id x (f x) (kept x (has-busy i x has_i)) (h.unique j (λ p. n (sym p))));
+        still =
+            other xs h j (f x) n (kept-other id x (f x) (kept x (has-busy i x has_i)) (h.unique j (λ p. n (sym p))));
       }
     where
       apart : has i (get_or xs k free_session) ≡ true → ⊥
-      apart q = false≢true (sym e ∙ ap (λ z. equal id z) (same_id id i (get_or xs k free_session) h.own q) ∙ equal-refl id)
+      apart q =
+          false≢true (sym e ∙ ap (λ z. equal id z) (same_id id i (get_or xs k free_session) h.own q) ∙ equal-refl id)
 
   -- the time check
-  checked : (time : ℕ) (xs : List Session) → Has k id xs → (is_free (get_or (map (expired time) xs) k free_session).state ≡ true) ⊎ Has k id (map (expired time) xs)
+  checked : (time : ℕ) (xs : List Session) → Has k id xs
+      → (is_free (get_or (map (expired time) xs) k free_session).state ≡ true) ⊎ Has k id (map (expired time) xs)
   checked time xs h = go (kept-own id x (expired time x) (kept-expired time x) h.own)
     where
       x : Session
       x = get_or xs k free_session
 
-      go : (is_free (expired time x).state ≡ true) ⊎ (has id (expired time x) ≡ true) → (is_free (get_or (map (expired time) xs) k free_session).state ≡ true) ⊎ Has k id (map (expired time) xs)
+      go : (is_free (expired time x).state ≡ true) ⊎ (has id (expired time x) ≡ true)
+          → (is_free (get_or (map (expired time) xs) k free_session).state ≡ true) ⊎ Has k id (map (expired time) xs)
       go (inl e) = inl (rw (get_or-map (expired time) xs k free_session) e)
       go (inr e) =
           inr
           (record {
             lt = rw (length-map xs (expired time)) h.lt;
             own = rw (get_or-map (expired time) xs k free_session) e;
-            unique = λ j m. rw (get_or-map (expired time) xs j free_session) (kept-other id (get_or xs j free_session) (expired time (get_or xs j free_session)) (kept-expired time (get_or xs j free_session)) (h.unique j m));
+            unique =
+                λ j m. rw (get_or-map (expired time) xs j free_session)
+                (kept-other id (get_or xs j free_session) (expired time (get_or xs j free_session))
+                (kept-expired time (get_or xs j free_session)) (h.unique j m));
           })
 
   -- ---- call by call
@@ -149,23 +173,19 @@ module _ (k : ℕ) (id : List ℕ) where
   only x = record { listeners = []; sessions = x ∷ [] }
 
   -- a call that leaves slot k and is not fed to it
-  passes : (c : Call) (t : Tables) → fed k id c ≡ none → ((a : Answer) → heard k id c a ≡ none) → Leaves t.sessions (step c t).after.sessions
+  passes : (c : Call) (t : Tables) → fed k id c ≡ none → ((a : Answer) → heard k id c a ≡ none)
+      → Leaves t.sessions (step c t).after.sessions
       → Follows (session_watch k id) Held c t
-  passes c t f n l =
-      record {
-        slot = rw f (ap only l.slot);
-        answer = rw (f, n (step c t).answer) refl;
-        on = inr l.still;
-      }
+  passes c t f n l = grind arith
 
   same-leaves : (xs : List Session) → Has k id xs → Leaves xs xs
   same-leaves xs h = record { slot = refl; still = h }
 
   notifying-leaves : (o : Option ℕ) (xs : List Session) → Has k id xs → Leaves xs (notifying o xs).after
-  notifying-leaves none xs h = same-leaves xs h
-  notifying-leaves (some l) xs h = same-leaves xs h
+  notifying-leaves o xs h = grind arith
 
-  requesting-leaves : (o : Option ℕ) (hd : Heard) (xs : List Session) → Has k id xs → Leaves xs (requesting o hd xs).after
+  requesting-leaves : (o : Option ℕ) (hd : Heard) (xs : List Session) → Has k id xs
+      → Leaves xs (requesting o hd xs).after
   requesting-leaves none hd xs h = same-leaves xs h
   requesting-leaves (some l) hd xs h = opening-leaves (requested l) _ hd.id _ xs refl h
 
@@ -179,7 +199,10 @@ module _ (k : ℕ) (id : List ℕ) where
     match u = lowest (Listeners.hears hd.com_id hd.sender hd.destination) u.listeners
 
     arrives : (u : Tables) (kind : Kind) → kind_of hd.type ≡ kind
-        → step c u ≡ record { answer = (arriving kind (match u) hd u.sessions).answer; after = record { listeners = u.listeners; sessions = (arriving kind (match u) hd u.sessions).after } }
+        → step c u ≡ record {
+          answer = (arriving kind (match u) hd u.sessions).answer;
+          after = record { listeners = u.listeners; sessions = (arriving kind (match u) hd u.sessions).after };
+        }
     unfolding step
     arrives u kind q = rw (e, q) refl
 
@@ -187,17 +210,22 @@ module _ (k : ℕ) (id : List ℕ) where
     not_own kind q n = rw (e, q, n) refl
 
     -- Mn and Mr leave a session that is open
-    by-leaving : (t : Tables) (kind : Kind) → kind_of hd.type ≡ kind → concerns kind ≡ false → Leaves t.sessions (arriving kind (match t) hd t.sessions).after
+    by-leaving : (t : Tables) (kind : Kind) → kind_of hd.type ≡ kind → concerns kind ≡ false
+        → Leaves t.sessions (arriving kind (match t) hd t.sessions).after
         → Follows (session_watch k id) Held c t
     by-leaving t kind q n l =
         passes c t (rw (not_own kind q n) refl) (λ b. rw (not_own kind q n) refl) (rw (arrives t kind q) l)
 
-    module _ (in' : SessionState → Bool) (f : Session → Session) (kept : (x : Session) → is_free x.state ≡ false → Kept x (f x)) where
+    module _ (in' : SessionState → Bool) (f : Session → Session)
+        (kept : (x : Session) → is_free x.state ≡ false → Kept x (f x)) where
       -- at one session: taken or not
-      took : (xs : List Session) → Has k id xs → hd.id ≡ id → (b : Bool) → can_take in' id (get_or xs k free_session) ≡ b
-          → (get_or (taking in' f hd xs).after k free_session ∷ [] ≡ (taking in' f hd (get_or xs k free_session ∷ [])).after)
+      took : (xs : List Session) → Has k id xs → hd.id ≡ id → (b : Bool)
+          → can_take in' id (get_or xs k free_session) ≡ b
+          → (get_or (taking in' f hd xs).after k free_session ∷ []
+          ≡ (taking in' f hd (get_or xs k free_session ∷ [])).after)
           × ((taking in' f hd xs).answer ≡ numbered k (taking in' f hd (get_or xs k free_session ∷ [])).answer)
-          × ((is_free (get_or (taking in' f hd xs).after k free_session).state ≡ true) ⊎ Has k id (taking in' f hd xs).after)
+          × ((is_free (get_or (taking in' f hd xs).after k free_session).state ≡ true)
+          ⊎ Has k id (taking in' f hd xs).after)
       took xs h i true b =
           let x : Session = get_or xs k free_session in
           rw (i, mine in' xs h, b) (
@@ -208,7 +236,8 @@ module _ (k : ℕ) (id : List ℕ) where
       took xs h i false b = rw (i, mine in' xs h, b) (refl, refl, inr h)
 
       by-taking : (t : Tables) → Held t → (kind : Kind) → kind_of hd.type ≡ kind → concerns kind ≡ true
-          → ((o : Option ℕ) (xs : List Session) → arriving kind o hd xs ≡ taking in' f hd xs) → Follows (session_watch k id) Held c t
+          → ((o : Option ℕ) (xs : List Session) → arriving kind o hd xs ≡ taking in' f hd xs)
+          → Follows (session_watch k id) Held c t
       by-taking t h kind q n same = go (equal id hd.id) refl
         where
           x : Session
@@ -219,14 +248,19 @@ module _ (k : ℕ) (id : List ℕ) where
               let own : own_telegram id (judged a d) ≡ true = rw (e, q, n, b) refl in
               let s = took t.sessions h (sym (equal-same id hd.id b)) (can_take in' id x) refl in
               record {
-                slot = rw (own, arrives t kind q, same (match t) t.sessions) (rw (step_if, arrives (only x) kind q, same (match (only x)) (x ∷ [])) (ap (λ l. record { listeners = []; sessions = l }) s.0));
-                answer = rw (own, arrives t kind q, same (match t) t.sessions) (rw (answer_if, own, arrives (only x) kind q, same (match (only x)) (x ∷ [])) (ap some s.1));
+                slot =
+                    rw (own, arrives t kind q, same (match t) t.sessions)
+                    (rw (step_if, arrives (only x) kind q, same (match (only x)) (x ∷ []))
+                    (ap (λ l. record { listeners = []; sessions = l }) s.0));
+                answer = rw (own, arrives t kind q, same (match t) t.sessions)
+                    (rw (answer_if, own, arrives (only x) kind q, same (match (only x)) (x ∷ [])) (ap some s.1));
                 on = rw (arrives t kind q, same (match t) t.sessions) s.2;
               }
           go false b =
               let own : own_telegram id (judged a d) ≡ false = rw (e, q, n, b) refl in
               passes c t (rw own refl) (λ z. rw own refl)
-              (rw (arrives t kind q, same (match t) t.sessions) (theirs in' f hd.id hd.status t.sessions h b kept (lowest (can_take in' hd.id) t.sessions) refl))
+              (rw (arrives t kind q, same (match t) t.sessions)
+              (theirs in' f hd.id hd.status t.sessions h b kept (lowest (can_take in' hd.id) t.sessions) refl))
 
     by_kind : (t : Tables) → Held t → (kind : Kind) → kind_of hd.type ≡ kind → Follows (session_watch k id) Held c t
     by_kind t h Mn q = by-leaving t Mn q refl (notifying-leaves (match t) t.sessions h)
@@ -238,13 +272,17 @@ module _ (k : ℕ) (id : List ℕ) where
 
   -- ---- a call that names a session
 
-  module _ (f : Session → Outcome Answer Session) (kept : (x : Session) → Kept x (f x).after) (xs : List Session) (h : Has k id xs) where
+  module _ (f : Session → Outcome Answer Session) (kept : (x : Session) → Kept x (f x).after) (xs : List Session)
+      (h : Has k id xs) where
     at_own : (get_or (at_slot free_session f k xs).after k free_session ≡ (f (get_or xs k free_session)).after)
-        × ((is_free (get_or (at_slot free_session f k xs).after k free_session).state ≡ true) ⊎ Has k id (at_slot free_session f k xs).after)
+        × ((is_free (get_or (at_slot free_session f k xs).after k free_session).state ≡ true)
+        ⊎ Has k id (at_slot free_session f k xs).after)
     unfolding at_slot
     at_own =
-        let x : Session = get_or xs k free_session in
-        (get_or-set_same xs k (f x).after free_session h.lt, own-step xs h (f x).after (kept-own id x (f x).after (kept x) h.own))
+        let x : Session = get_or xs k free_session in (
+          get_or-set_same xs k (f x).after free_session h.lt,
+          own-step xs h (f x).after (kept-own id x (f x).after (kept x) h.own),
+        )
 
     at_other : (j : ℕ) → eqb j k ≡ false → Leaves xs (at_slot free_session f j xs).after
     unfolding at_slot
@@ -252,19 +290,24 @@ module _ (k : ℕ) (id : List ℕ) where
         let x : Session = get_or xs j free_session in
         record {
           slot = get_or-set_other xs j k (f x).after free_session (eqb-other j k b);
-          still = other xs h j (f x).after (eqb-other j k b) (kept-other id x (f x).after (kept x) (h.unique j (λ p. eqb-other j k b (sym p))));
+          still = other xs h j (f x).after (eqb-other j k b)
+              (kept-other id x (f x).after (kept x) (h.unique j (λ p. eqb-other j k b (sym p))));
         }
 
-  at-answer : (f : Session → Outcome Answer Session) (j : ℕ) (xs : List Session) → (at_slot free_session f j xs).answer ≡ (f (get_or xs j free_session)).answer
+  at-answer : (f : Session → Outcome Answer Session) (j : ℕ) (xs : List Session)
+      → (at_slot free_session f j xs).answer ≡ (f (get_or xs j free_session)).answer
   unfolding at_slot
   at-answer f j xs = refl
 
-  at_only : (f : Session → Outcome Answer Session) (x : Session) → (at_slot free_session f 0 (x ∷ [])).after ≡ (f x).after ∷ []
+  at_only : (f : Session → Outcome Answer Session) (x : Session)
+      → (at_slot free_session f 0 (x ∷ [])).after ≡ (f x).after ∷ []
   unfolding at_slot
   at_only f x = refl
 
-  by-naming : (c own : Call) (j : ℕ) (f : Session → Outcome Answer Session) → ((x : Session) → Kept x (f x).after) → fed k id c ≡ cond (eqb j k) (some own) none
-      → ((a : Answer) → heard k id c a ≡ cond (eqb j k) (some a) none) → ((a : Answer) → heard_alone k id c a ≡ cond (eqb j k) (some a) none)
+  by-naming : (c own : Call) (j : ℕ) (f : Session → Outcome Answer Session) → ((x : Session) → Kept x (f x).after)
+      → fed k id c ≡ cond (eqb j k) (some own) none
+      → ((a : Answer) → heard k id c a ≡ cond (eqb j k) (some a) none)
+      → ((a : Answer) → heard_alone k id c a ≡ cond (eqb j k) (some a) none)
       → ((u : Tables) → step c u ≡ with_sessions u.listeners (at_slot free_session f j u.sessions))
       → ((u : Tables) → step own u ≡ with_sessions u.listeners (at_slot free_session f 0 u.sessions))
       → (t : Tables) → Held t → Follows (session_watch k id) Held c t
@@ -277,17 +320,27 @@ module _ (k : ℕ) (id : List ℕ) where
       go true b =
           let o = at_own f kept t.sessions h in
           record {
-            slot = rw (fd, b, s t, eqb_same j k b) (rw (step_if, so (only x), at_only f x) (ap only o.0));
-            answer = rw (fd, b, s t, hr, b) (rw (answer_if, so (only x), hra, b, at-answer f j t.sessions, at-answer f 0 (x ∷ []), eqb_same j k b) refl);
-            on = rw (s t, eqb_same j k b) o.1;
+            slot = rw (fd, b, s t, eqb-true j k b) (rw (step_if, so (only x), at_only f x) (ap only o.0));
+            answer =
+                rw (fd, b, s t, hr, b) (rw (
+                  answer_if,
+                  so (only x),
+                  hra,
+                  b,
+                  at-answer f j t.sessions,
+                  at-answer f 0 (x ∷ []),
+                  eqb-true j k b,
+                ) refl);
+            on = rw (s t, eqb-true j k b) o.1;
           }
       go false b = passes c t (rw (fd, b) refl) (λ z. rw (hr z, b) refl) (rw (s t) (at_other f kept t.sessions h j b))
 
   pub follows : (c : Call) (t : Tables) → Held t → Follows (session_watch k id) Held c t
   unfolding step
-  follows (listen com_id senders u) t h = passes (listen com_id senders u) t refl (λ a. refl) (same-leaves t.sessions h)
-  follows (unlisten j) t h = passes (unlisten j) t refl (λ a. refl) (same-leaves t.sessions h)
-  follows (calling i timeout time) t h = passes (calling i timeout time) t refl (λ a. refl) (opening-leaves opened _ i _ t.sessions refl h)
+  follows (listen com_id senders u) t h = grind arith
+  follows (unlisten j) t h = grind arith
+  follows (calling i timeout time) t h =
+      passes (calling i timeout time) t refl (λ a. refl) (opening-leaves opened _ i _ t.sessions refl h)
   follows (telegram a d) t h = go (judged a d) refl
     where
       go : (j : Judged) → judged a d ≡ j → Follows (session_watch k id) Held (telegram a d) t
@@ -297,18 +350,26 @@ module _ (k : ℕ) (id : List ℕ) where
     where
       go : (b : Bool) → is_reply type ≡ b → Follows (session_watch k id) Held (reply j type timeout time) t
       go true b =
-          by-naming (reply j type timeout time) (reply 0 type timeout time) j (at_session is_with_user replied (answered type timeout time))
-          (λ x. kept_at is_with_user replied (answered type timeout time) x (kept-answered type timeout time x)) refl (λ a. refl) (λ a. refl) (λ u. rw b refl) (λ u. rw b refl) t h
+          by-naming (reply j type timeout time) (reply 0 type timeout time) j
+          (at_session is_with_user replied (answered type timeout time))
+          (λ x. kept_at is_with_user replied (answered type timeout time) x (kept-answered type timeout time x)) refl
+          (λ a. refl) (λ a. refl) (λ u. rw b refl) (λ u. rw b refl) t h
       go false b = refuses (eqb j k) refl
         where
           c : Call
           c = reply j type timeout time
 
           refuses : (q : Bool) → eqb j k ≡ q → Follows (session_watch k id) Held c t
-          refuses true q = record { slot = rw (q, b) (rw (step_if, b) refl); answer = rw (q, b) (rw (answer_if, q) refl); on = rw b (inr h) }
+          refuses true q =
+              record {
+                slot = rw (q, b) (rw (step_if, b) refl);
+                answer = rw (q, b) (rw (answer_if, q) refl);
+                on = rw b (inr h);
+              }
           refuses false q = passes c t (rw q refl) (λ z. rw q refl) (rw b (same-leaves t.sessions h))
   follows (confirm j) t h =
-      by-naming (confirm j) (confirm 0) j (at_session owes_confirm confirmed ended) (λ x. kept_at owes_confirm confirmed ended x (λ b. kept-ended x)) refl (λ a. refl) (λ a. refl) (λ u. refl) (λ u. refl) t h
+      by-naming (confirm j) (confirm 0) j (at_session owes_confirm confirmed ended) (λ x. kept_at owes_confirm confirmed
+      ended x (λ b. kept-ended x)) refl (λ a. refl) (λ a. refl) (λ u. refl) (λ u. refl) t h
   follows (time_check time) t h =
       record {
         slot = rw (get_or-map (expired time) t.sessions k free_session) refl;
@@ -319,7 +380,7 @@ module _ (k : ℕ) (id : List ℕ) where
 -- ---- from the opening on
 
 apart : {X : Type 0} (k : ℕ) → ◌≡◌ {A = Option ℕ} none (some k) → X
-apart k e = let z : ◌≡◌ {A = ℕ} 0 1 = cc in absurd (omega arith)
+apart k e = grind arith
 
 -- a call that opens a session of an identifier, the listeners being those of t
 record Opens (c : Call) (t : Tables) (k : ℕ) : Type 0 where
@@ -332,7 +393,8 @@ record Opens (c : Call) (t : Tables) (k : ℕ) : Type 0 where
   number : (j : ℕ) → opened_at (given j) ≡ some j
   kept-number : numbered k (given 0) ≡ given k
   none-full : opened_at full ≡ none
-  step_is : (xs : List Session) → step c (record { listeners = t.listeners; sessions = xs }) ≡ with_sessions t.listeners (opening given full id state xs)
+  step_is : (xs : List Session) → step c (record { listeners = t.listeners; sessions = xs })
+      ≡ with_sessions t.listeners (opening given full id state xs)
 
 heard-id : (a : Arrival) (d : List ℕ) (hd : Heard) → judged a d ≡ passed hd → hd.id ≡ session_id_of d
 unfolding judged
@@ -343,48 +405,26 @@ heard-id a d hd e = by (first_of (md_checks a d)) e
     by (Err r) q = grind arith
 
 -- answers that open nothing
-listen-none : (e : Option Answer) (o : Option ℕ) (l : Listener) (ls : List Listener) → ((a : Answer) → e ≡ some a → opened_at a ≡ none)
+listen-none : (e : Option Answer) (o : Option ℕ) (l : Listener) (ls : List Listener)
+    → ((a : Answer) → e ≡ some a → opened_at a ≡ none)
     → opened_at (grant e o (refused_plain NoFreeSlot) listening l ls).answer ≡ none
 unfolding grant
-listen-none (some a) o l ls f = f a refl
-listen-none none none l ls f = refl
-listen-none none (some k) l ls f = refl
+listen-none e o l ls f = grind arith
 
 earlier-none : (v : Result (Unit {0}) Refusal) (a : Answer) → earlier v ≡ some a → opened_at a ≡ none
-earlier-none (Ok v) a e = grind arith
-earlier-none (Err r) a e = let z : refused_plain r ≡ a = cc in rw (← z) refl
-
-unlisten-none : (l : Listener) → opened_at (unlistened l).answer ≡ none
-unlisten-none l = by l.used
-  where
-    by : (b : Bool) → opened_at (cond {A = Outcome Answer Listener} b (record { answer = freed; after = Listeners.free_listener }) (record { answer = refused_plain NoSlot; after = l })).answer ≡ none
-    by true = refl
-    by false = refl
-
-at_none : (in' : SessionState → Bool) (done : Answer) (f : Session → Session) (x : Session) → opened_at done ≡ none → opened_at (at_session in' done f x).answer ≡ none
-at_none in' done f x n = by (is_free x.state) (in' x.state)
-  where
-    by : (b c : Bool) → opened_at (cond {A = Outcome Answer Session} b (record { answer = refused_plain NoSlot; after = x }) (cond c (record { answer = done; after = f x }) (record { answer = refused_plain NoSession; after = x }))).answer ≡ none
-    by true c = refl
-    by false true = n
-    by false false = refl
-
-taking-none : (o : Option ℕ) (f : Session → Session) (status : ℤ) (xs : List Session) → opened_at (taken_at o f status xs).answer ≡ none
-taking-none none f status xs = refl
-taking-none (some k) f status xs = refl
+earlier-none v a e = grind arith
 
 -- a telegram that passed opens a session only where it is an Mr that a listener hears
-opens-telegram : (a : Arrival) (d : List ℕ) (hd : Heard) → judged a d ≡ passed hd → (t : Tables) (k : ℕ) (kind : Kind) → kind_of hd.type ≡ kind
+opens-telegram : (a : Arrival) (d : List ℕ) (hd : Heard) → judged a d ≡ passed hd → (t : Tables) (k : ℕ) (kind : Kind)
+    → kind_of hd.type ≡ kind
     → opened_at (step (telegram a d) t).answer ≡ some k → Opens (telegram a d) t k
 unfolding step
-opens-telegram a d hd e t k Mn q o = by (lowest (Listeners.hears hd.com_id hd.sender hd.destination) t.listeners) (rw (e, q) at o)
+opens-telegram a d hd e t k Mn q o = grind arith
+opens-telegram a d hd e t k Mr q o =
+    by (lowest (Listeners.hears hd.com_id hd.sender hd.destination) t.listeners) refl (rw (e, q) at o)
   where
-    by : (l : Option ℕ) → opened_at (notifying l t.sessions).answer ≡ some k → Opens (telegram a d) t k
-    by none z = apart k z
-    by (some l) z = apart k z
-opens-telegram a d hd e t k Mr q o = by (lowest (Listeners.hears hd.com_id hd.sender hd.destination) t.listeners) refl (rw (e, q) at o)
-  where
-    by : (l : Option ℕ) → lowest (Listeners.hears hd.com_id hd.sender hd.destination) t.listeners ≡ l → opened_at (requesting l hd t.sessions).answer ≡ some k → Opens (telegram a d) t k
+    by : (l : Option ℕ) → lowest (Listeners.hears hd.com_id hd.sender hd.destination) t.listeners ≡ l
+        → opened_at (requesting l hd t.sessions).answer ≡ some k → Opens (telegram a d) t k
     by none m z = apart k z
     by (some l) m z =
         record {
@@ -399,19 +439,20 @@ opens-telegram a d hd e t k Mr q o = by (lowest (Listeners.hears hd.com_id hd.se
           none-full = refl;
           step_is = λ xs. rw (e, q, m) refl;
         }
-opens-telegram a d hd e t k Mp q o = apart k (sym (taking-none (lowest (can_take waits_for_reply hd.id) t.sessions) ended hd.status t.sessions) ∙ (rw (e, q) at o))
-opens-telegram a d hd e t k Mq q o = apart k (sym (taking-none (lowest (can_take waits_for_reply hd.id) t.sessions) (owing hd) hd.status t.sessions) ∙ (rw (e, q) at o))
-opens-telegram a d hd e t k Mc q o = apart k (sym (taking-none (lowest (can_take waits_for_confirm hd.id) t.sessions) ended hd.status t.sessions) ∙ (rw (e, q) at o))
-opens-telegram a d hd e t k Me q o = apart k (sym (taking-none (lowest (can_take waits_for_reply hd.id) t.sessions) ended hd.status t.sessions) ∙ (rw (e, q) at o))
+opens-telegram a d hd e t k Mp q o = grind arith
+opens-telegram a d hd e t k Mq q o = grind arith
+opens-telegram a d hd e t k Mc q o = grind arith
+opens-telegram a d hd e t k Me q o = grind arith
 
 opens : (c : Call) (t : Tables) (k : ℕ) → opened_at (step c t).answer ≡ some k → Opens c t k
 unfolding step at_slot
 opens (listen com_id senders u) t k o =
     apart k
-    (sym (listen-none (earlier (first_of (listen_checks com_id senders u t.listeners))) (lowest (λ l. not l.used) t.listeners) (Listeners.new_listener com_id senders u) t.listeners
+    (sym (listen-none (earlier (first_of (listen_checks com_id senders u t.listeners)))
+    (lowest (λ l. not l.used) t.listeners) (Listeners.new_listener com_id senders u) t.listeners
     (earlier-none (first_of (listen_checks com_id senders u t.listeners))))
     ∙ o)
-opens (unlisten j) t k o = apart k (sym (unlisten-none (get_or t.listeners j Listeners.free_listener)) ∙ o)
+opens (unlisten j) t k o = grind arith
 opens (calling i timeout time) t k o =
     record {
       given = opened;
@@ -430,48 +471,31 @@ opens (telegram a d) t k o = by (judged a d) refl
     by : (j : Judged) → judged a d ≡ j → Opens (telegram a d) t k
     by (refusal r) e = apart k (rw e at o)
     by (passed hd) e = opens-telegram a d hd e t k (kind_of hd.type) refl o
-opens (reply j type timeout time) t k o = by (is_reply type) refl
-  where
-    by : (b : Bool) → is_reply type ≡ b → Opens (reply j type timeout time) t k
-    by true b = apart k (sym (at_none is_with_user replied (answered type timeout time) (get_or t.sessions j free_session) refl) ∙ (rw b at o))
-    by false b = apart k (rw b at o)
-opens (confirm j) t k o = apart k (sym (at_none owes_confirm confirmed ended (get_or t.sessions j free_session) refl) ∙ o)
+opens (reply j type timeout time) t k o = grind arith
+opens (confirm j) t k o = grind arith
 opens (time_check time) t k o = apart k o
 
 -- what an opening did
-record Given (given : ℕ → Answer) (full : Answer) (i : List ℕ) (state : SessionState) (xs : List Session) (k : ℕ) : Type 0 where
+record Given (given : ℕ → Answer) (full : Answer) (i : List ℕ) (state : SessionState) (xs : List Session)
+    (k : ℕ) : Type 0 where
   new : any (has i) xs ≡ false
   at : lowest is_free_session xs ≡ some k
   leaves : (opening given full i state xs).after ≡ set xs k (record { id = i; state = state })
   answers : (opening given full i state xs).answer ≡ given k
 
-given-at : (given : ℕ → Answer) (full : Answer) (i : List ℕ) (state : SessionState) (xs : List Session) (k : ℕ) → ((j : ℕ) → opened_at (given j) ≡ some j) → opened_at full ≡ none
+given-at : (given : ℕ → Answer) (full : Answer) (i : List ℕ) (state : SessionState) (xs : List Session) (k : ℕ)
+    → ((j : ℕ) → opened_at (given j) ≡ some j) → opened_at full ≡ none
     → opened_at (opening given full i state xs).answer ≡ some k → Given given full i state xs k
 unfolding grant
-given-at given full i state xs k n f o = by (any (has i) xs) refl (lowest is_free_session xs) refl o
-  where
-    y : Session
-    y = record { id = i; state = state }
-
-    by : (b : Bool) → any (has i) xs ≡ b → (l : Option ℕ) → lowest is_free_session xs ≡ l
-        → opened_at (grant (cond b (some (refused_plain SessionInUse)) none) l full given y xs).answer ≡ some k → Given given full i state xs k
-    by true e l q z = apart k z
-    by false e none q z = apart k (sym f ∙ z)
-    by false e (some j) q z =
-        let same : j ≡ k = let w : ◌≡◌ {A = Option ℕ} (some j) (some k) = sym (n j) ∙ z in cc in
-        record {
-          new = e;
-          at = q ∙ ap some same;
-          leaves = rw (e, q) (ap (λ m. set xs m y) same);
-          answers = rw (e, q) (ap given same);
-        }
+given-at given full i state xs k n f o = grind arith
 
 new-has : (i : List ℕ) (state : SessionState) → is_free state ≡ false → has i (record { id = i; state = state }) ≡ true
 unfolding has
 new-has i state b = rw (b, equal-refl i) refl
 
 -- a session that was just opened is the only one of its identifier
-has_new : (i : List ℕ) (state : SessionState) (xs : List Session) (k : ℕ) → is_free state ≡ false → k < length xs → any (has i) xs ≡ false
+has_new : (i : List ℕ) (state : SessionState) (xs : List Session) (k : ℕ) → is_free state ≡ false → k < length xs
+    → any (has i) xs ≡ false
     → Has k i (set xs k (record { id = i; state = state }))
 has_new i state xs k b lt e =
     let y : Session = record { id = i; state = state } in
@@ -479,7 +503,8 @@ has_new i state xs k b lt e =
     record {
       lt = rw (length-set xs k y) lt;
       own = rw at own;
-      unique = λ j m. rw (get_or-set_other xs k j y free_session m) (any_false (has i) free_session xs j e (free-has i));
+      unique =
+          λ j m. rw (get_or-set_other xs k j y free_session m) (any_false (has i) free_session xs j e (free-has i));
     }
   where
     own : has i (record { id = i; state = state }) ≡ true
@@ -487,11 +512,13 @@ has_new i state xs k b lt e =
 
 -- the only session of a table of one
 alone-opens : (given : ℕ → Answer) (full : Answer) (i : List ℕ) (state : SessionState)
-    → opening given full i state (free_session ∷ []) ≡ record { answer = given 0; after = record { id = i; state = state } ∷ [] }
+    → opening given full i state (free_session ∷ [])
+    ≡ record { answer = given 0; after = record { id = i; state = state } ∷ [] }
 unfolding grant has
 alone-opens given full i state = refl
 
--- an opening after any list of calls: its answer and the session are those of the session alone, and the session is held
+-- an opening after any list of calls: its answer and the session are those of the session alone, and the session is
+-- held
 pub opened-held : (m n : ℕ) (before : List Call) (c : Call) (k : ℕ)
     → let t = run step before (empty_tables m n) in
     let o = step c t in
@@ -502,8 +529,10 @@ opened-held m n before c k o =
     let t : Tables = run step before (empty_tables m n) in
     let p : Opens c t k = opens c t k o in
     let y : Session = record { id = p.id; state = p.state } in
-    let s : step c t ≡ with_sessions t.listeners (opening p.given p.full p.id p.state t.sessions) = p.step_is t.sessions in
-    let g : Given p.given p.full p.id p.state t.sessions k = given-at p.given p.full p.id p.state t.sessions k p.number p.none-full (rw s at o) in
+    let s : step c t ≡ with_sessions t.listeners (opening p.given p.full p.id p.state t.sessions) =
+    p.step_is t.sessions in
+    let g : Given p.given p.full p.id p.state t.sessions k =
+    given-at p.given p.full p.id p.state t.sessions k p.number p.none-full (rw s at o) in
     let lt : k < length t.sessions = (lowest-is is_free_session free_session t.sessions k g.at).0 in
     let h : Has k p.id (set t.sessions k y) = has_new p.id p.state t.sessions k p.busy lt g.new in
     let at : get_or (set t.sessions k y) k free_session ≡ y = get_or-set_same t.sessions k y free_session lt in

@@ -8,7 +8,9 @@ use Rattle.tables.specs.Watch.{Watch, watched, told, watched_alone}
 use Rattle.session_table.specs.Table.{Tables}
 use Rattle.session.specs.Session.{free_session, is_free}
 use Rattle.session.specs.declared.Kind.TheVariants.{Mn, Mr, Mp, Mq, Mc, Me}
-use Rattle.session_table.specs.Table.{Call, listen, unlisten, calling, telegram, reply, confirm, time_check, Answer, listening, freed, opened, notified, requested, taken, replied, confirmed, codes, refused, Judged, refusal, passed, judged, Kind, kind_of, step, empty_tables}
+use Rattle.session_table.specs.Table.{Call, listen, unlisten, calling, telegram, reply, confirm, time_check, Answer}
+use Rattle.session_table.specs.Table.{listening, freed, opened, notified, requested, taken, replied, confirmed, codes}
+use Rattle.session_table.specs.Table.{refused, Judged, refusal, passed, judged, Kind, kind_of, step, empty_tables}
 
 -- the session of slot k as a table's only session; no listener is left
 abbrev pub slot_at : ℕ → Tables → Tables
@@ -90,7 +92,15 @@ heard_alone k id (time_check time) a = some (own_code 0 a)
 -- no call of these gives 1
 abbrev pub session_watch : ℕ → List ℕ → Watch Call Answer Tables
 session_watch k id =
-    record { step = step; slot = slot_at k; free = unused; fed = fed k id; hears = heard k id; hears_alone = heard_alone k id; gave1 = λ a. false }
+    record {
+      step = step;
+      slot = slot_at k;
+      free = unused;
+      fed = fed k id;
+      hears = heard k id;
+      hears_alone = heard_alone k id;
+      gave1 = λ a. false;
+    }
 
 -- the slot that a call opened
 abbrev pub opened_at : Answer → Option ℕ
@@ -115,8 +125,8 @@ identifier (reply j type timeout time) = []
 identifier (confirm j) = []
 identifier (time_check time) = []
 
--- from the call that opens it through the call that frees it, a session's record, its answers and its codes are those of the session alone;
--- an opening Mr meets the listeners as the calls before it leave them
+-- from the call that opens it through the call that frees it, a session's record, its answers and its codes are those
+-- of the session alone; an opening Mr meets the listeners as the calls before it leave them
 abbrev pub OneSession : Type 0
 OneSession =
     (m n : ℕ) (before after : List Call) (c : Call) (k : ℕ)

@@ -14,7 +14,10 @@ use Rattle.session_table.specs.Table.{Tables}
 use Rattle.session.specs.Listener.{free_listener}
 use Rattle.session.specs.Session.{free_session}
 use Rattle.session.specs.declared.Kind.TheVariants.{Mn, Mr, Mp, Mq, Mc, Me}
-use Rattle.session_table.specs.Table.{Call, listen, unlisten, calling, telegram, reply, confirm, time_check, Answer, listening, freed, opened, notified, requested, taken, replied, confirmed, codes, refused, refused_plain, Heard, Judged, refusal, passed, judged, Kind, kind_of, notifying, no_listener, all_in_use, hearing, step, empty_tables}
+use Rattle.session_table.specs.Table.{Call, listen, unlisten, calling, telegram, reply, confirm, time_check, Answer}
+use Rattle.session_table.specs.Table.{listening, freed, opened, notified, requested, taken, replied, confirmed, codes}
+use Rattle.session_table.specs.Table.{refused, refused_plain, Heard, Judged, refusal, passed, judged, Kind, kind_of}
+use Rattle.session_table.specs.Table.{notifying, no_listener, all_in_use, hearing, step, empty_tables}
 use Rattle.isolation.specs.Alone.{unused, numbered}
 
 -- what a session alone is fed after its opening: a call, but for the slot's number
@@ -83,7 +86,8 @@ is_of id (held i state fs) = equal i id
 -- 17: the identifier was opened and has not ended; 18: no slot is free; else the lowest free slot
 abbrev pub opening_beside : (ℕ → Answer) → Answer → List ℕ → SessionState → List Slot → Outcome Answer (List Slot)
 opening_beside given full id state ss =
-    grant (cond (any (is_of id) ss) (some (refused_plain SessionInUse)) none) (lowest vacant ss) full given (held id state []) ss
+    grant (cond (any (is_of id) ss) (some (refused_plain SessionInUse)) none) (lowest vacant ss) full given
+    (held id state []) ss
 
 -- a reply or a confirm goes to the session of its identifier and to no other; 19 where there is none
 abbrev pub taking_beside : Option ℕ → Fed → List Slot → Outcome Answer (List Slot)
@@ -93,7 +97,8 @@ taking_beside (some k) f ss = at_slot free (λ s. record { answer = numbered k (
 -- an Mr meets the listeners as the calls before it leave them
 abbrev pub requesting_beside : Option ℕ → Heard → List Slot → Outcome Answer (List Slot)
 requesting_beside none h ss = record { answer = no_listener; after = ss }
-requesting_beside (some l) h ss = opening_beside (requested l) all_in_use h.id (WithUser (record { start = h.time; timeout = h.timeout })) ss
+requesting_beside (some l) h ss =
+    opening_beside (requested l) all_in_use h.id (WithUser (record { start = h.time; timeout = h.timeout })) ss
 
 abbrev pub heard_beside : Kind → Option ℕ → Heard → Fed → List Slot → Outcome Answer (List Slot)
 heard_beside Mn l h f ss = record { answer = (notifying l []).answer; after = ss }
@@ -119,7 +124,8 @@ listeners_beside c s =
 
 -- a call that names slot k is answered by the session alone there
 abbrev pub named_beside : Fed → ℕ → Slots → Outcome Answer Slots
-named_beside f k s = with_slots s.listeners (at_slot free (λ x. record { answer = said f x; after = feed f x }) k s.slots)
+named_beside f k s =
+    with_slots s.listeners (at_slot free (λ x. record { answer = said f x; after = feed f x }) k s.slots)
 
 -- the code that the session alone answers to a time check
 abbrev pub code_in : Answer → ℤ
@@ -139,13 +145,17 @@ unfoldable pub beside : Call → Slots → Outcome Answer Slots
 beside (listen com_id senders u) s = listeners_beside (listen com_id senders u) s
 beside (unlisten k) s = listeners_beside (unlisten k) s
 beside (calling id timeout time) s =
-    with_slots s.listeners (opening_beside opened (refused_plain NoFreeSession) id (WaitingForReply (record { start = time; timeout = timeout })) s.slots)
+    with_slots s.listeners (opening_beside opened (refused_plain NoFreeSession) id
+    (WaitingForReply (record { start = time; timeout = timeout })) s.slots)
 beside (telegram a d) s = arriving_beside a d (judged a d) s
 beside (reply k type timeout time) s = named_beside (replying type timeout time) k s
 beside (confirm k) s = named_beside confirming k s
 beside (time_check time) s =
     with_slots s.listeners
-    (record { answer = codes (map (λ x. code_in (said (checked time) x)) s.slots); after = map (feed (checked time)) s.slots })
+    (record {
+      answer = codes (map (λ x. code_in (said (checked time) x)) s.slots);
+      after = map (feed (checked time)) s.slots;
+    })
 
 -- m listeners and n sessions, all free
 abbrev pub empty_slots : ℕ → ℕ → Slots
@@ -153,4 +163,5 @@ empty_slots m n = record { listeners = replicate m free_listener; slots = replic
 
 -- the answers, and the listeners and sessions after each call, are those of sessions alone, side by side
 abbrev pub SideBySide : Type 0
-SideBySide = (m n : ℕ) (calls : List Call) → trace step (λ t. t) calls (empty_tables m n) ≡ trace beside joined calls (empty_slots m n)
+SideBySide = (m n : ℕ) (calls : List Call)
+    → trace step (λ t. t) calls (empty_tables m n) ≡ trace beside joined calls (empty_slots m n)

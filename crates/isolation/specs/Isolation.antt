@@ -29,7 +29,8 @@ pub record Both (S T : Type 0) : Type 0 where
   pub messages : T
 
 -- each call by its own rules; the other state stays
-unfoldable pub both : {S T : Type 0} → (pd.Call → S → Outcome pd.Answer S) → (md.Call → T → Outcome md.Answer T) → Call → Both S T → Outcome Answer (Both S T)
+unfoldable pub both : {S T : Type 0} → (pd.Call → S → Outcome pd.Answer S) → (md.Call → T → Outcome md.Answer T) → Call
+    → Both S T → Outcome Answer (Both S T)
 both f g (process c) s =
     let o = f c s.subscriptions in
     record { answer = processed o.answer; after = record { subscriptions = o.after; messages = s.messages } }
@@ -88,7 +89,8 @@ of_messages =
       own_answer = message_answer;
     }
 
--- from its grant through the call that frees it, a subscription's record, octets and answers are those of the slot alone
+-- from its grant through the call that frees it, a subscription's record, octets and answers are those of the slot
+-- alone
 abbrev pub SlotAlone : Stack → List Call → Type 0
 SlotAlone s after =
     (q : Request) (time k : ℕ)
@@ -99,8 +101,8 @@ SlotAlone s after =
     → (slot.slot_at k grant.after.subscriptions ≡ alone.subscriptions)
     × (watched w after grant.after ≡ watched_alone w (told w after grant.after) alone)
 
--- from the call that opens it through the call that frees it, a session's record, its answers and its codes are those of the session alone;
--- an opening Mr meets the listeners as the calls before it leave them
+-- from the call that opens it through the call that frees it, a session's record, its answers and its codes are those
+-- of the session alone; an opening Mr meets the listeners as the calls before it leave them
 abbrev pub SessionAlone : Stack → List Call → Type 0
 SessionAlone s after =
     (c : md.Call) (k : ℕ)
@@ -119,16 +121,23 @@ SessionAlone s after =
 abbrev pub seen_by : {S T : Type 0} → (S → pd.Table) → (T → Tables) → Both S T → Stack
 seen_by f g s = record { subscriptions = f s.subscriptions; messages = g s.messages }
 
--- the answers and all tables after each call that slots and sessions alone give, side by side; where sizes are refused, so is every call of process data
+-- the answers and all tables after each call that slots and sessions alone give, side by side; where sizes are refused,
+-- so is every call of process data
 abbrev pub side_by_side : ℕ → ℕ → ℕ → ℕ → List Call → List (Outcome Answer Stack)
 side_by_side n octets m i calls =
     cond (pd.fits n octets)
-    (trace (both slots.beside sessions.beside) (seen_by slots.joined sessions.joined) calls (record { subscriptions = replicate n slots.free; messages = sessions.empty_slots m i }))
-    (trace (both slots.refusing sessions.beside) (seen_by (λ t. t) sessions.joined) calls (record { subscriptions = pd.empty_table n octets; messages = sessions.empty_slots m i }))
+    (trace (both slots.beside sessions.beside) (seen_by slots.joined sessions.joined) calls
+    (record { subscriptions = replicate n slots.free; messages = sessions.empty_slots m i }))
+    (trace (both slots.refusing sessions.beside) (seen_by (λ t. t) sessions.joined) calls
+    (record { subscriptions = pd.empty_table n octets; messages = sessions.empty_slots m i }))
 
--- Demand 3, over every number of slots, store octets, listeners and sessions, and every list of calls: each answer, grant, opening, slot number, record and octet
--- is that of slots and sessions alone; and whatever came before, from its grant or its opening on each slot and each session is the slot or the session alone
+-- Demand 3, over every number of slots, store octets, listeners and sessions, and every list of calls: each answer,
+-- grant, opening, slot number, record and octet is that of slots and sessions alone; and whatever came before, from its
+-- grant or its opening on each slot and each session is the slot or the session alone
 pub record Isolation : Type 0 where
-  pub side-by-side : (n octets m i : ℕ) (calls : List Call) → trace step (λ s. s) calls (empty n octets m i) ≡ side_by_side n octets m i calls
-  pub slot-alone : (n octets m i : ℕ) (before after : List Call) → SlotAlone (run step before (empty n octets m i)) after
-  pub session-alone : (n octets m i : ℕ) (before after : List Call) → SessionAlone (run step before (empty n octets m i)) after
+  pub side-by-side : (n octets m i : ℕ) (calls : List Call)
+      → trace step (λ s. s) calls (empty n octets m i) ≡ side_by_side n octets m i calls
+  pub slot-alone : (n octets m i : ℕ) (before after : List Call)
+      → SlotAlone (run step before (empty n octets m i)) after
+  pub session-alone : (n octets m i : ℕ) (before after : List Call)
+      → SessionAlone (run step before (empty n octets m i)) after

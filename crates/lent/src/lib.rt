@@ -2,21 +2,24 @@
 #![tactic(auto)]
 
 ghost use Rattle.std.specs.Prelude.{◌≡◌, [], ◌∷◌, min, take};
+ghost use Rattle.std.specs.Fn.{FnOnceReturnsAtMut};
 ghost use Rattle.subscription_table.specs.Table as table;
 ghost use Rattle.subscription_decisions.specs.Calls.{told};
 ghost use Rattle.subscriptions.specs.Read.{Reads};
 ghost use Rattle.subscriptions.specs.Receive as arriving;
-ghost use Rattle.lent.specs.Lent.{Serves, Receives};
+ghost use Rattle.lent.specs.Lent.{Serves, Receives, Runs};
 
 use arrival::Arrival;
 use refusal::Refusal;
 use statistics::Statistics;
+use std::slice;
 use subscription::{Filter, Subscription};
 use subscription_decisions::View;
 use subscriptions::Table;
 
-// The records, in fixed memory, and how many of them and how many octets of the store each call is lent. Each call cuts
-// both anew: a function that hands out a `Table` over two cuts gets no proof of what is left when it ends.
+// The records, in fixed memory, and how many of them and how many octets of the store each call is lent.
+// The numbers stand beside the records since memory is fixed, and a call may be lent more slots than 32 (refusal 1).
+// The store is lent to each call and is no field: a reference in it would need a clause that it stays (`Lends`).
 #[derive(Clone, Copy)]
 pub struct Slots {
     pub records: [Subscription; 40],
@@ -32,7 +35,19 @@ impl Slots {
         self.lent.min(40)
     }
 
-    // Subscribing.
+    // A call on the slots and octets that are lent.
+    fn with_table<R, F: FnOnce(&mut Table) -> R>(&mut self, store: &mut [u8], f: F) -> R
+        requires { F.IsAlwaysCallable f }
+        ensures { Runs (FnOnceReturnsAtMut F.FnOnce f) self.old store.old result self.new store.new }
+    {
+        let n = self.count();
+        let m = self.octets.min(store.len());
+        let (slots, _) = self.records[..].split_at_mut(n);
+        let (store, _) = store.split_at_mut(m);
+        f(&mut Table { slots, store })
+    }
+
+    // Subscribing. The values stand apart and the behaviour is a number, as in `subscriptions::Table::subscribe`.
     pub fn subscribe(
         &mut self,
         store: &mut [u8],
@@ -44,36 +59,24 @@ impl Slots {
         ensures { Serves (table.subscribe (record { filter = f; timeout = timeout; behaviour = behaviour }) time)
             self.old store.old (told table.granted result) self.new store.new }
     {
-        let n = self.count();
-        let m = self.octets.min(store.len());
-        let (slots, _) = self.records[..].split_at_mut(n);
-        let (store, _) = store.split_at_mut(m);
-        Table { slots, store }.subscribe(f, timeout, behaviour, time)
+        self.with_table(store, |t| t.subscribe(f, timeout, behaviour, time))
     }
 
     // Unsubscribing.
     pub fn unsubscribe(&mut self, store: &mut [u8], k: usize) -> Result<(), Refusal>
         ensures { Serves (table.unsubscribe k) self.old store.old (told (λ _. table.freed) result) self.new store.new }
     {
-        let n = self.count();
-        let m = self.octets.min(store.len());
-        let (slots, _) = self.records[..].split_at_mut(n);
-        let (store, _) = store.split_at_mut(m);
-        Table { slots, store }.unsubscribe(k)
+        self.with_table(store, |t| t.unsubscribe(k))
     }
 
     // The time check.
     pub fn time_check(&mut self, store: &mut [u8], time: u64) -> Result<usize, Refusal>
         ensures { Serves (table.time_check time) self.old store.old (told table.marked result) self.new store.new }
     {
-        let n = self.count();
-        let m = self.octets.min(store.len());
-        let (slots, _) = self.records[..].split_at_mut(n);
-        let (store, _) = store.split_at_mut(m);
-        Table { slots, store }.time_check(time)
+        self.with_table(store, |t| t.time_check(time))
     }
 
-    // A PD datagram arrives.
+    // A PD datagram arrives. No closure: of the statistics, lent to it by reference, nothing would be known.
     pub fn receive(
         &mut self,
         store: &mut [u8],
@@ -86,9 +89,8 @@ impl Slots {
     {
         let n = self.count();
         let m = self.octets.min(store.len());
-        let (slots, _) = self.records[..].split_at_mut(n);
-        let (store, _) = store.split_at_mut(m);
-        Table { slots, store }.receive(statistics, a, datagram)
+        let slots = &mut self.records[..n];
+        receive_at(slots, &mut store[..m], statistics, a, datagram)
     }
 
     // Reading slot k.
@@ -99,6 +101,20 @@ impl Slots {
         let m = self.octets.min(store.len());
         subscriptions::read(&self.records[..n], &store[..m], k)
     }
+}
+
+// A PD datagram arrives at these slots.
+fn receive_at(
+    slots: &mut [Subscription],
+    store: &mut [u8],
+    statistics: &mut Statistics,
+    a: Arrival,
+    datagram: &[u8],
+) -> Result<usize, Refusal>
+    ensures { arriving.Receives a datagram.now slots.old store.old statistics.old (told table.delivered result)
+        slots.new store.new statistics.new }
+{
+    Table { slots, store }.receive(statistics, a, datagram)
 }
 
 // A PD datagram arrives at a slot that is a table's only one.
@@ -112,12 +128,5 @@ pub fn receive_alone(
     ensures { arriving.Receives a datagram.now (slot.old ∷ []) store.old statistics.old (told table.delivered result)
         (slot.new ∷ []) store.new statistics.new }
 {
-    let mut slots = [*slot];
-    let answer = Table {
-        slots: &mut slots,
-        store,
-    }
-    .receive(statistics, a, datagram);
-    *slot = slots[0];
-    answer
+    receive_at(slice::from_mut(slot), store, statistics, a, datagram)
 }

@@ -17,7 +17,7 @@ pub trait Program {
     fn flush(&mut self) -> io::Result<()>;
 }
 
-// A line begun: its octets so far. Their count is beyond the room where it is too long.
+// A line begun: its octets so far, in fixed memory. Their count is beyond the room where it is too long.
 #[derive(Drop)]
 struct Begun<'a> {
     octets: &'a mut [u8],
@@ -55,7 +55,8 @@ pub fn split_line(block: &[u8]) -> Option<(&[u8], &[u8])>
     Some((&block[..e], &block[e + 1..]))
 }
 
-// A line that ends: what was begun of it, and what stands before the LF.
+// A line that ends: what was begun of it, and what stands before the LF. A line within one block is handed on as it is,
+// however long: a program refuses one that is too long for its form.
 fn end_line<P: Program>(program: &mut P, begun: &mut Begun, part: &[u8]) -> io::Result<()> {
     if begun.count == 0 {
         return program.take_line(part);
@@ -66,6 +67,7 @@ fn end_line<P: Program>(program: &mut P, begun: &mut Begun, part: &[u8]) -> io::
     Ok(())
 }
 
+// Whole lines handed on, and what begins one kept. No iterator: what is left behind the last LF is kept too.
 fn take_block<P: Program>(program: &mut P, begun: &mut Begun, block: &[u8]) -> io::Result<()> {
     let mut rest = block;
     while let Some((part, behind)) = split_line(rest) {
@@ -78,7 +80,8 @@ fn take_block<P: Program>(program: &mut P, begun: &mut Begun, block: &[u8]) -> i
 
 // Line after line, to the input's end or until nothing more is wanted. Answers whether a line is left without its LF.
 // Where a read fails, the answers that wait are written. A proved loop has to end, and nothing says that the input
-// does: the turns are more than any run uses up.
+// does: the turns are more than any run uses up. No clause says what is handed on: none can say what a stream gives
+// (docs/DECISIONS.md).
 pub fn take_lines<P: Program>(
     input: Stdin,
     program: &mut P,

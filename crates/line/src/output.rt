@@ -3,7 +3,8 @@ ghost use Rattle.std.specs.Prelude.{◌≡◌, cond, ◌<◌, ◌≤◌, ltb, le
 
 use std::io::{self, Print, Stdout};
 
-// Octets that wait written out where they are more than some number; how many still wait. An error comes of the write
+// Octets that wait, the first of a program's fixed memory, written out where they are more than some number; how many
+// still wait. An error comes of the write
 // alone, which may then have written some of them.
 pub fn flush(to: Stdout, out: &[u8], waiting: usize, most: usize) -> io::Result<usize>
     requires { waiting ≤ length out.now }

@@ -18,14 +18,14 @@ use Rattle.listing.specs.declared.Outcome.TheVariants.{Delivered, Refused, BadLi
 abbrev pub slot_zero : Subscription
 slot_zero = granted_record (record { com_id = 1000; senders = record { start = 0; end = 0 }; destination = 0 }) 0 1 0
 
--- a telegram taken is delivered, any other is refused
+-- a telegram taken is delivered, any other is refused with its number
 abbrev pub outcome_of : Answer → Outcome
 outcome_of (granted k) = Delivered
 outcome_of freed = Delivered
 outcome_of (delivered n) = Delivered
 outcome_of (marked n) = Delivered
 outcome_of (shows state octets) = Delivered
-outcome_of (refused r) = Refused r
+outcome_of (refused r) = Refused (number r)
 
 -- a bad line is not totalled
 abbrev pub counted : Outcome → Totals → Totals
@@ -62,7 +62,7 @@ Lists l None datagram store o l' store' = Keeps l store o l' store'
 -- what became of a line, in words, and the line's end
 abbrev pub outcome_words : Outcome → List (List ℕ)
 outcome_words Delivered = ascii " delivered 1\n" ∷ []
-outcome_words (Refused r) = refused_words (number r) ++ (ascii "\n" ∷ [])
+outcome_words (Refused r) = refused_words r ++ (ascii "\n" ∷ [])
 outcome_words BadLine = ascii " bad line\n" ∷ []
 
 -- the line that answers line n: its number, and what became of it

@@ -18,26 +18,30 @@ use statistics::Statistics;
 use subscription::{Filter, Subscription};
 use topography::TopoCounts;
 
-// What became of a line.
+// What became of a line: three cases and no Result, since a bad line is neither delivered nor refused.
+// Refused with a number: `Outcome::put`, which docs/RULES.md names, says what is printed of every number.
 #[derive(Clone, Copy, Debug, PartialEq, Eq)]
 pub enum Outcome {
     Delivered,
-    Refused(Refusal),
+    Refused(u8),
     BadLine,
 }
 
-impl Outcome {
-    // A telegram taken is delivered, any other is refused.
-    fn of(answer: Result<usize, Refusal>) -> Outcome
-        ensures { result ≡ outcome_of (told delivered answer) }
-    {
+// A telegram taken is delivered, any other is refused with its number.
+impl From<Result<usize, Refusal>> for Outcome {
+    ghost from_gives = { λ r o. o ≡ outcome_of (told delivered r) };
+
+    fn from(answer: Result<usize, Refusal>) -> Outcome {
         match answer {
             Ok(_) => Outcome::Delivered,
-            Err(r) => Outcome::Refused(r),
+            Err(r) => Outcome::Refused(r.into()),
         }
     }
+}
 
+impl Outcome {
     // The line that says what became of line n.
+    // No Display: its `output` is one text, and `outcome_line` is pieces, each left out whole where it does not fit.
     pub fn put(self, n: u64, out: &mut Room)
         ensures { Fills (outcome_line n self) out.old out.new }
     {
@@ -45,7 +49,7 @@ impl Outcome {
         match self {
             Outcome::Delivered => out.text(b" delivered 1\n"),
             Outcome::Refused(r) => {
-                out.refused(u8::from(r));
+                out.refused(r);
                 out.text(b"\n");
             }
             Outcome::BadLine => out.text(b" bad line\n"),
@@ -72,7 +76,7 @@ impl Totals {
         }
     }
 
-    // The line that ends the listing.
+    // The line that ends the listing; no Display, as in `Outcome::put`.
     pub fn put(self, out: &mut Room)
         ensures { Fills (total_line self) out.old out.new }
     {
@@ -131,7 +135,7 @@ impl Listing {
             time: f.time,
             local: self.local,
         };
-        let outcome = Outcome::of(lent::receive_alone(
+        let outcome = Outcome::from(lent::receive_alone(
             &mut self.slot,
             store,
             &mut self.statistics,

@@ -3,9 +3,9 @@
 
 pub mod uri;
 
-ghost use Rattle.std.specs.Prelude.{◌≡◌, ◌&&◌, ◌+◌, ◌≤◌, length};
+ghost use Rattle.std.specs.Prelude.{◌≡◌, [], ◌&&◌, ◌+◌, ◌≤◌, cond, leb, length};
 ghost use Rattle.refusal.specs.Refusal.{first_of};
-ghost use Rattle.octets.specs.Octets.{put, unsigned};
+ghost use Rattle.octets.specs.Octets.{part, put, unsigned};
 ghost use Rattle.telegram.specs.Telegram.{padded, Wrote};
 ghost use Rattle.md.specs.Uri.{sound};
 ghost use Rattle.md.specs.Md.{session_id_of, source_uri_of, destination_uri_of, front_of, frame_of, write_checks_md};
@@ -14,7 +14,7 @@ use octets::Number;
 use refusal::Refusal;
 use telegram::{Common, Family, Header};
 
-// The numbers of an MD header; identifier and URI fields stand beside it. A writer takes datasetLength from the dataset.
+// The numbers of an MD header; identifier and URI fields stand beside it. A writer sets datasetLength by the dataset.
 #[repr(C)]
 #[derive(Clone, Copy)]
 pub struct MdHeader {
@@ -31,6 +31,7 @@ impl Header for MdHeader {
 
     ghost header_of = { md.header_of };
 
+    // What the trait asks of each header, as in pd.
     fn family() -> Family {
         Family::Md
     }
@@ -62,7 +63,7 @@ pub struct MdFields<'a> {
     pub destination_uri: &'a [u8; 32],
 }
 
-// The session identifier of a datagram; zeros where it has none.
+// The session identifier of a datagram; zeros where it has none, and no Option, since `session_id_of` says zeros.
 pub fn session_id(d: &[u8]) -> [u8; 16]
     ensures { result ≡ session_id_of d.now }
 {
@@ -72,18 +73,26 @@ pub fn session_id(d: &[u8]) -> [u8; 16]
     octets::array(d, 28)
 }
 
+// The 32 octets of a URI field that stands at k; nothing where the datagram has none.
+fn uri_field(d: &[u8], k: usize) -> &[u8]
+    requires { k ≤ 80 }
+    ensures { result.now ≡ cond (leb (k + 32) (length d.now)) (part 32 k d.now) [] }
+{
+    d.get(k..k + 32).unwrap_or(&[])
+}
+
 // The source URI field of a datagram; nothing where it has none.
 pub fn source_uri(d: &[u8]) -> &[u8]
     ensures { result.now ≡ source_uri_of d.now }
 {
-    if d.len() < 80 { &[] } else { &d[48..80] }
+    uri_field(d, 48)
 }
 
-// The destination URI field of a datagram; nothing where it has none.
+// The destination URI field of a datagram; nothing where it has none. By its own name, as specs/ and docs/ name it.
 pub fn destination_uri(d: &[u8]) -> &[u8]
     ensures { result.now ≡ destination_uri_of d.now }
 {
-    if d.len() < 112 { &[] } else { &d[80..112] }
+    uri_field(d, 80)
 }
 
 impl<'a> MdFields<'a> {
@@ -113,7 +122,7 @@ impl<'a> MdFields<'a> {
         octets::copy_into(target, 80, destination);
     }
 
-    // The target's first octets become the telegram; the answer is their number.
+    // The target's first octets become the telegram; the answer is their number. Bounds as in `telegram::finish`.
     fn fill(&self, dataset: &[u8], target: &mut [u8]) -> usize
         requires dataset_len_bound { length dataset.now ≤ 65388 }
         requires dataset_in_bounds { 116 + padded (length dataset.now) ≤ length target.old }
@@ -129,10 +138,11 @@ impl<'a> MdFields<'a> {
     }
 }
 
-// A telegram written, and how many octets; or the first refusal of 4, 5, 16, 20 and 15, which leaves the target as it was.
+// A telegram written, and how many octets; or the first refusal of 4, 5, 16, 20 and 15, which changes nothing.
 pub fn write_md(m: &MdFields, dataset: &[u8], target: &mut [u8]) -> Result<usize, Refusal>
-    ensures { Wrote (first_of (write_checks_md m.now.header m.now.source_uri.now m.now.destination_uri.now (length dataset.now)
-        (length target.old))) (frame_of m.now.header m.now.session_id.now m.now.source_uri.now m.now.destination_uri.now dataset.now)
+    ensures { Wrote (first_of (write_checks_md m.now.header m.now.source_uri.now m.now.destination_uri.now
+        (length dataset.now) (length target.old)))
+        (frame_of m.now.header m.now.session_id.now m.now.source_uri.now m.now.destination_uri.now dataset.now)
         target.old result target.new }
 {
     let n = dataset.len();

@@ -33,7 +33,7 @@ fn text(u: &[u8]) -> &[u8]
     }
 }
 
-// Two fields bear the same URI, each up to its first zero octet.
+// Two fields bear the same URI, each up to its first zero octet; `==` would look at the octets behind it too.
 pub fn are_same(a: &[u8], b: &[u8]) -> bool
     ensures { result ≡ same_uri a.now b.now }
 {

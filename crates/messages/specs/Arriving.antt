@@ -1,9 +1,10 @@
 -- An arriving MD telegram, rule by rule, as the code hands it on; and the outcome that its answer counts as.
-use Rattle.std.specs.Prelude.{ℕ, ◌≡◌, List}
+use Rattle.std.specs.Prelude.{ℕ, ◌≡◌, List, Ok, Err, Result}
 use Rattle.refusal.specs.Refusal.{number}
 use Rattle.tables.specs.Trace.{Outcome}
 use Rattle.session.specs.declared.Session.{Session}
 use Rattle.session_table.specs.Table.{Call, Answer, listening, freed, opened, notified, requested, taken, replied, confirmed, codes, refused, Heard}
+use Rattle.session_table.specs.declared.MdRefusal.{MdRefusal}
 use Rattle.packed.specs.Packed.{tables_of}
 use Rattle.packed_slots.specs.Calls.{left_by}
 use Rattle.messages.specs.declared.Message.{Message}
@@ -41,3 +42,8 @@ outcome_of replied = 0
 outcome_of confirmed = 0
 outcome_of (codes cs) = 0
 outcome_of (refused r status) = number r
+
+-- .. of what the code answers, whatever is granted
+abbrev pub outcome_in : {T : Type 0} → Result T MdRefusal → ℕ
+outcome_in (Ok x) = 0
+outcome_in (Err e) = number e.refusal

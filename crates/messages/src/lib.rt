@@ -12,7 +12,7 @@ ghost use Rattle.session_table.specs.Table.{md_checks, telegram, hearing, notify
 ghost use Rattle.session_table.specs.Calls.{heard};
 ghost use Rattle.packed.specs.Packed.{tables_of};
 ghost use Rattle.packed_slots.specs.Calls.{Follows};
-ghost use Rattle.messages.specs.Arriving.{heard_by, outcome_of, Gives};
+ghost use Rattle.messages.specs.Arriving.{heard_by, outcome_in, Gives};
 
 use arrival::Arrival;
 use md::MdHeader;
@@ -25,6 +25,7 @@ use timing::Timing;
 // What a telegram says that passed its checks.
 #[derive(Clone, Copy)]
 pub struct Message<'a> {
+    // A number, as the rules of specs/ are told it (`heard_by`).
     pub msg_type: u16,
     pub com_id: u32,
     pub sender: u32,
@@ -36,7 +37,7 @@ pub struct Message<'a> {
 }
 
 impl<'a> Message<'a> {
-    // Since when a session waits that the telegram opens or changes, and how long.
+    // Since when a session waits that the telegram opens or changes, and how long: two of its fields.
     fn timing(&self) -> Timing
         ensures { result ≡ record { start = self.now.time; timeout = self.now.timeout } }
     {
@@ -86,6 +87,7 @@ impl<'a> Message<'a> {
     }
 
     // Mp, Mq, Mc and Me: 19, else the session that waits for this becomes another.
+    // What it waits for is a value, and no step to run: it says which session is sought (`session::Waits`).
     fn take(
         &self,
         octets: &mut [u8; OCTETS],
@@ -158,6 +160,7 @@ fn judge(a: Arrival, datagram: &[u8]) -> Result<MdHeader, Refusal>
 }
 
 // An MD datagram arrives: 2 to 7, 20, then the rule of its type.
+// Arrival and octets apart: C gives the one by value and lends the other (`trdp_receive_md`).
 pub fn arrive(octets: &mut [u8; OCTETS], a: Arrival, datagram: &[u8]) -> Result<Arrived, MdRefusal>
     ensures { Follows (telegram a datagram.now) octets.old (heard result) octets.new }
 {
@@ -175,9 +178,10 @@ pub fn arrive(octets: &mut [u8; OCTETS], a: Arrival, datagram: &[u8]) -> Result<
     m.follow(octets)
 }
 
-// The outcome that an answer counts as: the refusal's number, 0 for whatever was granted.
-pub fn outcome_of(answer: Result<Arrived, MdRefusal>) -> u8
-    ensures { result ≡ outcome_of (heard answer) }
+// The outcome that an answer counts as, of any call: the refusal's number, 0 for whatever was granted.
+// A number, as `Statistics::record` takes it, and no `From`: it leaves out status and slots, and no type says outcome.
+pub fn outcome_of<T: Drop>(answer: Result<T, MdRefusal>) -> u8
+    ensures { result ≡ outcome_in answer }
 {
     match answer {
         Ok(_) => 0,

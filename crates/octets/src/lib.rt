@@ -4,7 +4,7 @@
 ghost use Rattle.std.specs.Prelude.{◌≡◌, ℕ, ◌+◌, ◌≤◌, length, replicate};
 ghost use Rattle.octets.specs.Octets.{little, big, little_of, big_of, part, put, signed, unsigned};
 
-// The N octets of s at k.
+// The N octets of s at k; a place beside s, since over the part alone a caller would write out `k..k + N`.
 pub fn array<const N: usize>(s: &[u8], k: usize) -> [u8; N]
     requires { k + N ≤ length s.now }
     ensures { result ≡ part N k s.now }
@@ -15,6 +15,7 @@ pub fn array<const N: usize>(s: &[u8], k: usize) -> [u8; N]
 }
 
 // source written into target at k.
+// Not over the part alone, tried in `md::MdFields`: each of nine calls would need a law from std's part to `put`.
 pub fn copy_into(target: &mut [u8], k: usize, source: &[u8])
     requires { k + length source.now ≤ length target.old }
     ensures { target.new ≡ put k source.now target.old }
@@ -22,7 +23,7 @@ pub fn copy_into(target: &mut [u8], k: usize, source: &[u8])
     target[k..k + source.len()].copy_from_slice(source);
 }
 
-// n zeros written into target at k.
+// n zeros written into target at k, a place beside the target as in `copy_into`: both callers promise a `put`.
 pub fn clear_part(target: &mut [u8], k: usize, n: usize)
     requires { k + n ≤ length target.old }
     ensures { target.new ≡ put k (replicate n 0) target.old }
@@ -30,7 +31,7 @@ pub fn clear_part(target: &mut [u8], k: usize, n: usize)
     target[k..k + n].fill(0);
 }
 
-// An unsigned number of WIDTH octets.
+// An unsigned number of WIDTH octets; a place beside the slice in each method, as in `array` and `copy_into`.
 pub trait Number: Copy {
     // How many octets it has.
     const WIDTH: usize;

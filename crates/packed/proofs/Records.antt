@@ -1,19 +1,15 @@
--- One listener and one session: what was packed means it again. And what is written over as many octets is all there
--- is.
+-- One listener and one session: what was packed means it again.
 -- Assumes nothing.
-use mathlib.Core.Path.{◌≡◌, refl, sym, ap, ap₂, subst, ◌∙◌}
-use mathlib.Core.List.{List, ◌++◌, append-nil}
+use mathlib.Core.Path.{◌≡◌, refl, ap, ap₂, subst}
+use mathlib.Core.List.{List}
 use mathlib.Core.Bool.{Bool, true, false, cond, not}
-use Prim.Native.Nat.{ℕ, ◌+◌, ◌<◌, ◌≤◌, ◌^◌, ◌%◌}
+use Prim.Native.Nat.{ℕ, ◌<◌, ◌≤◌, ◌^◌, ◌%◌}
 use native.Mathlib.Omega.{arith}
 use lib.Dec.{eqb}
-use mir.Val.{bool_byte}
-use lib.ListN.{length, drop_of_length-le}
+use lib.ListN.{length}
 use lib.Seq.{take_all}
-use Rattle.octets.specs.Octets.{little, little_of, part, put}
+use Rattle.octets.specs.Octets.{little, little_of}
 use Rattle.octets.proofs.Numbers.{little-back}
-use Rattle.octets.proofs.Parts.{part_length}
-use Rattle.octets.proofs.Puts.{put-start}
 use Rattle.timing.specs.declared.Timing.{Timing}
 use Rattle.session.specs.declared.Listener.{Listener}
 use Rattle.session.specs.declared.Session.{Session}
@@ -21,19 +17,7 @@ use Rattle.session.specs.declared.SessionState.{SessionState}
 use Rattle.session.specs.declared.SessionState.TheVariants.{Free, WaitingForReply, OwingConfirm, WithUser, WaitingForConfirm}
 use Rattle.packed.specs.Packed.{listener_of, state_of, session_of, listener_octets, state_number, timing_of, session_octets}
 
-pub put_all : (xs o : List ℕ) → length xs ≡ length o → put 0 xs o ≡ xs
-put_all xs o e =
-    let z : length o ≤ length xs = omega (arith, e) in
-    put-start xs o ∙ ap (λ (l : List ℕ). xs ++ l) (drop_of_length-le o z) ∙ append-nil xs
-
-pub put_whole : (n k : ℕ) (s o : List ℕ) → k + n ≤ length s → length o ≡ n → put 0 (part n k s) o ≡ part n k s
-put_whole n k s o h e = put_all (part n k s) o (part_length n k s h ∙ sym e)
-
 -- ---- one listener
-
-pub used-number : (b : Bool) → bool_byte b ≡ cond b 1 0
-used-number true = refl
-used-number false = refl
 
 used-back : (b : Bool) → not (eqb (cond b 1 0 % 256) 0) ≡ b
 used-back true = refl
@@ -55,10 +39,6 @@ listener-back l c s e u =
     (take_all 32 l.uri z)
 
 -- ---- one session
-
--- its octets, by the number of its state and its timing
-abbrev pub laid : ℕ → Timing → List ℕ → List ℕ
-laid n t id = little_of 4 n ++ little_of 4 t.timeout ++ little_of 8 t.start ++ id
 
 timing-back : (t : Timing) → t.start < 256 ^ 8 → t.timeout < 256 ^ 4
     → ◌≡◌ {A = Timing} (record { start = little (little_of 8 t.start); timeout = little (little_of 4 t.timeout) }) t

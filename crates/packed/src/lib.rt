@@ -22,6 +22,7 @@ pub const SESSIONS: usize = SLOTS * LISTENER;
 pub const OCTETS: usize = SESSIONS + SLOTS * SESSION;
 
 // The listener in 48 octets.
+// Listeners and sessions have two functions each: other fields, and a trait would add its own clauses to the four.
 pub fn unpack_listener(s: &[u8]) -> Listener
     requires { length s.now ≡ 48 }
     ensures { result ≡ listener_of s.now }
@@ -37,7 +38,7 @@ pub fn unpack_listener(s: &[u8]) -> Listener
     }
 }
 
-// The state of a number, any other than 1 to 4 being free.
+// The state of a number, any other than 1 to 4 being free. No `From`, since the timing is asked for too.
 fn state_of(n: u8, t: Timing) -> SessionState
     ensures { result ≡ state_of n t }
 {

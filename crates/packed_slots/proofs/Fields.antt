@@ -62,7 +62,7 @@ module _ (k : ℕ) (s : List ℕ) (h : k < 16) where
   in-use_at : (n : ℕ) (t : Timing) → (leb 1 n && leb n 4) ≡ not (is_free (state_of n t))
   in-use_at n t = grind (arith, nat_tests)
 
-  pub state_at : (leb 1 (get_or s (768 + k * 32) 0) && leb (get_or s (768 + k * 32) 0) 4)
+  state_at : (leb 1 (get_or s (768 + k * 32) 0) && leb (get_or s (768 + k * 32) 0) 4)
       ≡ not (is_free (get_or (tables_of s).sessions k free_session).state)
   unfolding sessions_of
   state_at =
@@ -73,6 +73,19 @@ module _ (k : ℕ) (s : List ℕ) (h : k < 16) where
       ap (λ (n : ℕ). leb 1 n && leb n 4) (sym f)
       ∙ in-use_at (get_or t 0 0) _
       ∙ ap (λ (x : Session). not (is_free x.state)) (read_at session_of 16 32 k (drop 768 s) free_session h)
+
+  -- .. and any other number is a free one's
+  pub within_at : 1 ≤ get_or s (768 + k * 32) 0 → get_or s (768 + k * 32) 0 ≤ 4
+      → true ≡ not (is_free (get_or (tables_of s).sessions k free_session).state)
+  within_at l g = grind (arith, nat_tests) ∙ state_at
+
+  pub below_at : get_or s (768 + k * 32) 0 < 1
+      → false ≡ not (is_free (get_or (tables_of s).sessions k free_session).state)
+  below_at l = grind (arith, nat_tests) ∙ state_at
+
+  pub above_at : 4 < get_or s (768 + k * 32) 0
+      → false ≡ not (is_free (get_or (tables_of s).sessions k free_session).state)
+  above_at l = grind (arith, nat_tests) ∙ state_at
 
 -- ---- a session that is free has no identifier, and can take nothing
 

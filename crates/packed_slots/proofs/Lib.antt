@@ -1,3 +1,4 @@
 pub mod Places
 pub mod Fields
 pub mod Left
+pub mod Found

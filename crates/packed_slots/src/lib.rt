@@ -9,6 +9,7 @@ ghost use Rattle.session.specs.Session.{free_session, is_free, has, can_take, wa
 ghost use Rattle.packed.specs.Packed.{tables_of};
 ghost use Rattle.packed_slots.specs.Slots.{PutsListener, PutsSession, Places, used_for};
 
+use address::SenderRange;
 use octets::Number;
 use packed::{LISTENER, OCTETS, SESSION, SESSIONS, SLOTS};
 use refusal::Refusal;
@@ -16,6 +17,7 @@ use session::{Listener, Session, SessionState, Waits};
 
 // Reading and writing stand twice, for sessions and for listeners: one function over a trait of records is no plainer,
 // since the trait's place, width, unpacking, packing and laws are longer than the four functions.
+// Octets and slot are two parameters of each: a slot is an argument of one call, and belongs to no octets.
 
 // The session of a slot; a slot too large is a free one.
 pub fn session_at(octets: &[u8; OCTETS], k: usize) -> Session
@@ -75,7 +77,7 @@ pub fn find_free_listener(octets: &[u8; OCTETS]) -> Option<usize>
     (0..SLOTS).find(|&k| octets[k * LISTENER] == 0)
 }
 
-// The lowest listener that hears a telegram.
+// The lowest listener that hears a telegram. Three values of it, as `session: hears` has them; a struct is no plainer.
 pub fn find_hearing(
     octets: &[u8; OCTETS],
     com_id: u32,
@@ -89,18 +91,22 @@ pub fn find_hearing(
     })
 }
 
-// The lowest listener with the same filter.
-pub fn find_holding(octets: &[u8; OCTETS], l: &Listener) -> Option<usize>
-    ensures { result ≡ found_of
-        (lowest (holds l.now.com_id l.now.senders l.now.uri) (tables_of octets.now).listeners) }
+// The lowest listener with the same filter: three values, as in `session::Listener::holds`.
+pub fn find_holding(
+    octets: &[u8; OCTETS],
+    com_id: u32,
+    senders: SenderRange,
+    uri: &[u8],
+) -> Option<usize>
+    ensures { result ≡ found_of (lowest (holds com_id senders uri.now) (tables_of octets.now).listeners) }
 {
     (0..SLOTS).find(|&k| {
-        is_used_for(octets, k, l.com_id)
-            && listener_at(octets, k).holds(l.com_id, l.senders, &l.uri)
+        is_used_for(octets, k, com_id) && listener_at(octets, k).holds(com_id, senders, uri)
     })
 }
 
 // The session of a slot is in use; no more than the number of its state is looked at.
+#[tactic(auto, using(crate::proofs::Fields::within_at, crate::proofs::Fields::below_at, crate::proofs::Fields::above_at))]
 fn is_in_use(octets: &[u8; OCTETS], k: usize) -> bool
     requires { k < 16 }
     ensures { result ≡ not (is_free (get_or (tables_of octets.now).sessions k free_session).state) }
@@ -122,7 +128,7 @@ pub fn find_session(octets: &[u8; OCTETS], id: [u8; 16]) -> Option<usize>
     (0..SLOTS).find(|&k| is_in_use(octets, k) && session_at(octets, k).has(id))
 }
 
-// The lowest session of this identifier that can take what it waits for.
+// The lowest session of this identifier that can take what it waits for: a value that says what is sought, no step.
 pub fn find_waiting(octets: &[u8; OCTETS], id: [u8; 16], w: Waits) -> Option<usize>
     ensures { result ≡ found_of (lowest (can_take (waits_of w) id) (tables_of octets.now).sessions) }
 {

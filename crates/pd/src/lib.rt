@@ -29,6 +29,7 @@ impl Header for PdHeader {
 
     ghost header_of = { pd.header_of };
 
+    // What the trait asks of each header, as in md.
     fn family() -> Family {
         Family::Pd
     }
@@ -43,7 +44,7 @@ impl Header for PdHeader {
     }
 }
 
-// The target's first octets become the telegram.
+// The target's first octets become the telegram. The bounds are as in `telegram::finish`, for 1432 octets.
 fn fill(h: PdHeader, dataset: &[u8], target: &mut [u8])
     requires dataset_len_bound { length dataset.now ≤ 1432 }
     requires dataset_in_bounds { 40 + padded (length dataset.now) ≤ length target.old }

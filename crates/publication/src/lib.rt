@@ -14,6 +14,7 @@ use refusal::Refusal;
 pub struct Publication {
     pub header: PdHeader,
     pub cycle: u32,
+    // A number, since C holds the record between two sendings (`trdp_publish`, `trdp_send`).
     pub sent: u8,
     pub last_sent: u64,
 }

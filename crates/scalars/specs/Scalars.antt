@@ -45,6 +45,13 @@ parts Eight = 8 ∷ []
 parts FourTwo = 4 ∷ 2 ∷ []
 parts FourFour = 4 ∷ 4 ∷ []
 
+-- the parts in which scalars are turned round, by number
+abbrev pub shapes : List (List ℕ)
+shapes = [] ∷ (1 ∷ []) ∷ (2 ∷ []) ∷ (4 ∷ []) ∷ (8 ∷ []) ∷ (4 ∷ 2 ∷ []) ∷ (4 ∷ 4 ∷ []) ∷ []
+
+abbrev pub shape_parts : ℕ → List ℕ
+shape_parts k = get_or shapes k []
+
 -- a scalar of such parts at p, each part turned round
 abbrev pub turned_at : List ℕ → ℕ → List ℕ → List ℕ
 turned_at [] p s = []

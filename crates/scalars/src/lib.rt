@@ -3,7 +3,7 @@
 
 ghost use Rattle.std.specs.Prelude.{◌≡◌, [], ◌∷◌, ◌+◌, ◌*◌, ◌≤◌, length};
 ghost use Rattle.octets.specs.Octets.{put};
-ghost use Rattle.scalars.specs.Scalars.{parts, parts_of, size, array_at};
+ghost use Rattle.scalars.specs.Scalars.{parts, parts_of, shape_parts, size, array_at};
 
 use octets::Number;
 
@@ -20,7 +20,25 @@ pub enum Shape {
     FourFour,
 }
 
+// The shape of a number, in the order of `shapes`; Empty where that list has no such number.
+impl From<usize> for Shape {
+    ghost from_gives = { λ k shape. parts shape ≡ shape_parts k };
+
+    fn from(k: usize) -> Shape {
+        match k {
+            1 => Shape::One,
+            2 => Shape::Two,
+            3 => Shape::Four,
+            4 => Shape::Eight,
+            5 => Shape::FourTwo,
+            6 => Shape::FourFour,
+            _ => Shape::Empty,
+        }
+    }
+}
+
 // n scalars from p on that are numbers: read least significant octet first, written big endian.
+// The four parameters are those of `turn`; over parts alone each arm of it would need a law from a part to the whole.
 fn turn_numbers<W: Number>(n: usize, source: &[u8], p: usize, target: &mut [u8])
     requires in_source { p + n * W.WIDTH ≤ length source.now }
     requires in_target { p + n * W.WIDTH ≤ length target.old }
@@ -46,7 +64,8 @@ fn turn_dates(n: usize, source: &[u8], p: usize, target: &mut [u8])
 }
 
 impl Shape {
-    // The shape of a scalar type; Empty where there is no such type.
+    // The shape of a scalar type; Empty where there is none. A number, since a lent run may say any (`parts_of`).
+    // No `From`: the one above takes a shape's own number, and a `From<u32>` beside it would mean another thing.
     pub fn of(t: u32) -> Shape
         ensures { parts result ≡ parts_of t }
     {

@@ -15,7 +15,8 @@ const LINE: usize = 132_240;
 // Answers are written out once more octets than this wait; input is read in blocks of as many.
 const BLOCK: usize = 32_768;
 
-// Room for answers: those that wait, and behind them a longest one, `n timedout OCTETS` with a substitute set of 66,000 octets.
+// Room for answers: those that wait, and behind them a longest one, `n timedout OCTETS` with a substitute set of 66,000
+// octets.
 const ROOM: usize = 164_832;
 
 // Room for a description run.
@@ -24,7 +25,8 @@ const NUMBERS: usize = 5_000;
 // The store of 40 subscription slots.
 const STORE: usize = 57_280;
 
-// What the calls leave to the next, the lines answered, and the answers that wait to be written.
+// What the calls leave to the next, the lines answered, and the answers that wait to be written: so many octets of
+// fixed memory, since there is no heap to gather them in.
 #[derive(Drop)]
 struct Answerer {
     to: Stdout,
@@ -42,7 +44,7 @@ impl Answerer {
     fn begin(to: Stdout) -> Answerer {
         Answerer {
             to,
-            state: scenario_calls::start(),
+            state: State::start(),
             lines: 0,
             descriptions: [0; NUMBERS],
             store: [0; STORE],
@@ -59,13 +61,8 @@ impl Answerer {
             at: self.waiting,
         };
         room.digits(self.lines);
-        self.state = scenario_calls::answer(
-            self.state,
-            &mut self.descriptions,
-            &mut self.store,
-            s,
-            &mut room,
-        );
+        self.state
+            .answer(&mut self.descriptions, &mut self.store, s, &mut room);
         room.text(b"\n");
         self.waiting = room.at;
     }

@@ -18,4 +18,7 @@ counters_words family c =
 -- `pd` and its counters, R9, then `md` and its, R17 R18 R19 R20
 abbrev pub statistics_words : Statistics → List (List ℕ)
 statistics_words s =
-    counters_words (ascii "pd") s.pd ++ decimals (part 1 9 s.pd.refused) ++ counters_words (ascii "md") s.md ++ decimals (part 4 17 s.md.refused)
+    counters_words (ascii "pd") s.pd
+    ++ decimals (part 1 9 s.pd.refused)
+    ++ counters_words (ascii "md") s.md
+    ++ decimals (part 4 17 s.md.refused)

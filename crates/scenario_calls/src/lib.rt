@@ -1,20 +1,24 @@
-// The calls by their verbs, and what each leaves to the next. Each fills the room with its answer; nothing where the line is none of its own.
+// The calls by their verbs, and what each leaves to the next. Each fills the room with its answer; nothing where the
+// line is none of its own, and then all stays as it was. Line and room stand side by side: each verb reads the one and
+// fills the other.
 #![tactic(auto)]
 
 mod counters;
 
-ghost use Rattle.std.specs.Prelude.{◌≡◌, List, ℕ};
-ghost use Rattle.scenario_calls.specs.Calls.{at_start, local_effect, stats_effect, wire_effect, publication_effect, data_effect, process_effect, message_effect, plain_effect, described_effect, call_effect, effect_of, Leaves, Answers};
+ghost use Rattle.std.specs.Prelude.{◌≡◌};
+ghost use Rattle.scenario_calls.specs.Calls.{at_start, local_effect, stats_effect, wire_effect, publication_effect};
+ghost use Rattle.scenario_calls.specs.Calls.{message_effect, plain_effect, effect_of, Leaves, Answers};
 
 use answer::Room;
 use lent::Slots;
+use line::reader::Fields;
 use publication::Publication;
 use scenario_wire::publications;
 use statistics::Statistics;
 use topography::TopoCounts;
 
-// The local topography counters, the publication, how many numbers the description run has, subscriptions, the octets of
-// listeners and sessions, and statistics.
+// The local topography counters, the publication, how many numbers the description run has, subscriptions, the octets
+// of listeners and sessions, and statistics.
 #[derive(Clone, Copy)]
 pub struct State {
     pub local: TopoCounts,
@@ -25,168 +29,107 @@ pub struct State {
     pub statistics: Statistics,
 }
 
-// Before the first call: counters 0 and 0, no publication, an empty description run, nothing subscribed, nothing counted.
-pub fn start() -> State
-    ensures { result ≡ at_start }
-{
-    State {
-        local: TopoCounts {
-            etb_topo_cnt: 0,
-            op_trn_topo_cnt: 0,
-        },
-        held: None,
-        numbers: 0,
-        slots: scenario_pd::start(),
-        tables: [0; 1280],
-        statistics: Statistics::none(),
+impl State {
+    // Before the first call: counters 0 and 0, no publication, an empty description run, nothing subscribed, nothing
+    // counted.
+    pub fn start() -> State
+        ensures { result ≡ at_start }
+    {
+        State {
+            local: TopoCounts {
+                etb_topo_cnt: 0,
+                op_trn_topo_cnt: 0,
+            },
+            held: None,
+            numbers: 0,
+            slots: scenario_pd::start(),
+            tables: [0; 1280],
+            statistics: Statistics::none(),
+        }
     }
-}
 
-// `local ETB OPTRN`
-fn local(state: State, s: &[u8], out: &mut Room) -> Option<State>
-    ensures { (run octets : List ℕ) → Leaves (local_effect state run octets s.now) out.old result run octets out.new }
-{
-    let etb = line::number(s, line::behind(5), 8);
-    let op_trn = line::number(s, etb, 8);
-    if line::is_end(s, op_trn) {
-        let counts = TopoCounts {
-            etb_topo_cnt: line::word(etb),
-            op_trn_topo_cnt: line::word(op_trn),
+    // `local ETB OPTRN`
+    fn local(&mut self, s: &[u8], out: &mut Room) -> Option<()>
+        ensures { Leaves (local_effect self.old s.now) out.old result self.new out.new }
+    {
+        let mut fields = Fields::behind(s, 5);
+        let [etb_topo_cnt, op_trn_topo_cnt] = fields.words::<2>()?;
+        fields.end()?;
+        self.local = TopoCounts {
+            etb_topo_cnt,
+            op_trn_topo_cnt,
         };
         out.word(b"ok");
-        return Some(State {
-            local: counts,
-            ..state
-        });
+        Some(())
     }
-    None
-}
 
-// `stats`
-fn stats(state: State, s: &[u8], out: &mut Room) -> Option<State>
-    ensures { (run octets : List ℕ) → Leaves (stats_effect state run octets s.now) out.old result run octets out.new }
-{
-    if line::is_end(s, line::behind(5)) {
-        counters::put_statistics(out, &state.statistics);
-        return Some(state);
+    // `stats`, the verb alone
+    fn stats(&mut self, s: &[u8], out: &mut Room) -> Option<()>
+        ensures { Leaves (stats_effect self.old s.now) out.old result self.new out.new }
+    {
+        if s.len() != 5 {
+            return None;
+        }
+        counters::put_statistics(out, &self.statistics);
+        Some(())
     }
-    None
-}
 
-// A call over the publication.
-fn publication(state: State, s: &[u8], out: &mut Room) -> Option<State>
-    ensures { (run octets : List ℕ) → Leaves (publication_effect state run octets s.now) out.old result run octets out.new }
-{
-    let mut held = state.held;
-    publications::answer(&mut held, s, out)?;
-    Some(State { held, ..state })
-}
-
-// A call over the description run.
-fn data(state: State, descriptions: &mut [u32], s: &[u8], out: &mut Room) -> Option<State>
-    ensures { (octets : List ℕ) → Leaves (data_effect state descriptions.old octets s.now) out.old result
-        descriptions.new octets out.new }
-{
-    let mut numbers = state.numbers;
-    scenario_data::answer(&mut numbers, descriptions, s, out)?;
-    Some(State { numbers, ..state })
-}
-
-// A call over subscriptions.
-fn process_data(state: State, store: &mut [u8], s: &[u8], out: &mut Room) -> Option<State>
-    ensures { (run : List ℕ) → Leaves (process_effect state run store.old s.now) out.old result run store.new out.new }
-{
-    let mut slots = state.slots;
-    let mut statistics = state.statistics;
-    scenario_pd::answer(&mut slots, &mut statistics, state.local, store, s, out)?;
-    Some(State {
-        slots,
-        statistics,
-        ..state
-    })
-}
-
-// A call over listeners and sessions.
-fn message_data(state: State, s: &[u8], out: &mut Room) -> Option<State>
-    ensures { (run octets : List ℕ) → Leaves (message_effect state run octets s.now) out.old result run octets out.new }
-{
-    let mut tables = state.tables;
-    let mut statistics = state.statistics;
-    scenario_md::answer(&mut tables, &mut statistics, state.local, s, out)?;
-    Some(State {
-        tables,
-        statistics,
-        ..state
-    })
-}
-
-// A call over no table.
-fn wire(state: State, s: &[u8], out: &mut Room) -> Option<State>
-    ensures { (run octets : List ℕ) → Leaves (wire_effect state run octets s.now) out.old result run octets out.new }
-{
-    scenario_wire::answer(s, out)?;
-    Some(state)
-}
-
-// A call that knows no lent memory answered.
-fn plain(state: State, s: &[u8], out: &mut Room) -> Option<State>
-    ensures { (run octets : List ℕ) → Leaves (plain_effect state run octets s.now) out.old result run octets out.new }
-{
-    if line::is_verb(s, b"local") {
-        return local(state, s, out);
+    // A call over no table.
+    fn wire(&mut self, s: &[u8], out: &mut Room) -> Option<()>
+        ensures { Leaves (wire_effect self.old s.now) out.old result self.new out.new }
+    {
+        scenario_wire::answer(s, out)
     }
-    if line::is_verb(s, b"stats") {
-        return stats(state, s, out);
-    }
-    if let Some(after) = wire(state, s, out) {
-        return Some(after);
-    }
-    if let Some(after) = message_data(state, s, out) {
-        return Some(after);
-    }
-    publication(state, s, out)
-}
 
-// A call over the description run answered, or one that knows no lent memory.
-fn described(state: State, descriptions: &mut [u32], s: &[u8], out: &mut Room) -> Option<State>
-    ensures { (octets : List ℕ) → Leaves (described_effect state descriptions.old octets s.now) out.old result
-        descriptions.new octets out.new }
-{
-    if let Some(after) = data(state, descriptions, s, out) {
-        return Some(after);
+    // A call over the publication.
+    fn publication(&mut self, s: &[u8], out: &mut Room) -> Option<()>
+        ensures { Leaves (publication_effect self.old s.now) out.old result self.new out.new }
+    {
+        publications::answer(&mut self.held, s, out)
     }
-    plain(state, s, out)
-}
 
-// A call answered. A further module's verbs are tried where none before answers.
-fn call(
-    state: State,
-    descriptions: &mut [u32],
-    store: &mut [u8],
-    s: &[u8],
-    out: &mut Room,
-) -> Option<State>
-    ensures { Leaves (call_effect state descriptions.old store.old s.now) out.old result descriptions.new store.new out.new }
-{
-    if let Some(after) = process_data(state, store, s, out) {
-        return Some(after);
+    // A call over listeners and sessions.
+    fn message_data(&mut self, s: &[u8], out: &mut Room) -> Option<()>
+        ensures { Leaves (message_effect self.old s.now) out.old result self.new out.new }
+    {
+        scenario_md::answer(&mut self.tables, &mut self.statistics, self.local, s, out)
     }
-    described(state, descriptions, s, out)
-}
 
-// A line that no call answers is bad, and changes nothing.
-pub fn answer(
-    state: State,
-    descriptions: &mut [u32],
-    store: &mut [u8],
-    s: &[u8],
-    out: &mut Room,
-) -> State
-    ensures { Answers (effect_of state descriptions.old store.old s.now) out.old result descriptions.new store.new out.new }
-{
-    if let Some(after) = call(state, descriptions, store, s, out) {
-        return after;
+    // By the verb; else one kind of line after another.
+    fn plain(&mut self, s: &[u8], out: &mut Room) -> Option<()>
+        ensures { Leaves (plain_effect self.old s.now) out.old result self.new out.new }
+    {
+        if line::is_verb(s, b"local") {
+            return self.local(s, out);
+        }
+        if line::is_verb(s, b"stats") {
+            return self.stats(s, out);
+        }
+        if self.wire(s, out).is_some() {
+            return Some(());
+        }
+        if self.message_data(s, out).is_some() {
+            return Some(());
+        }
+        self.publication(s, out)
     }
-    out.word(b"bad line");
-    state
+
+    // A line that no call answers is bad, and changes nothing. A further module's verbs are tried where none before
+    // answers.
+    pub fn answer(&mut self, descriptions: &mut [u32], store: &mut [u8], s: &[u8], out: &mut Room)
+        ensures { Answers (effect_of self.old descriptions.old store.old s.now) out.old
+            self.new descriptions.new store.new out.new }
+    {
+        let (slots, statistics) = (&mut self.slots, &mut self.statistics);
+        if scenario_pd::answer(slots, statistics, self.local, store, s, out).is_some() {
+            return;
+        }
+        if scenario_data::answer(&mut self.numbers, descriptions, s, out).is_some() {
+            return;
+        }
+        if self.plain(s, out).is_some() {
+            return;
+        }
+        out.word(b"bad line");
+    }
 }

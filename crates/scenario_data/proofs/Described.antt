@@ -1,11 +1,10 @@
--- Numbers written one after the other; each line as the functions read it; a conversion's answer in words; a line by its verb.
+-- Numbers written one after the other; what a line leaves of the run; a conversion's answer in words.
 -- Assumes nothing.
 use mathlib.Core.Path.{◌≡◌, refl, sym, ap, ap₂, ◌∙◌}
 use mathlib.Core.Bool.{true, false}
 use mathlib.Core.List.{List, [], ◌∷◌, ◌++◌, append_assoc}
 use mathlib.Core.Option.{Option, none, some}
 use Prim.Native.Nat.{ℕ, zero, suc, ◌+◌, ◌*◌, ◌/◌, ◌<◌}
-use native.Mathlib.Nat.{zero-add}
 use native.Mathlib.Numerals.{add-one}
 use native.Mathlib.Omega.{arith}
 use lib.ListN.{length, get_or, set, take, drop}
@@ -15,17 +14,13 @@ use Rattle.refusal.specs.declared.Refusal.{Refusal}
 use Rattle.refusal.specs.Refusal.{answer, after}
 use Rattle.octets.specs.Octets.{big, part, put}
 use Rattle.dataset.specs.declared.Form.{Form}
-use Rattle.dataset.specs.declared.Form.TheVariants.{Wire, Host}
 use Rattle.dataset.specs.Walk.{Walked, whole_of, refusal_of, done_of, Converts}
-use Rattle.line.specs.declared.Field.{Field}
-use Rattle.line.specs.Line.{read_to, number_field, verb_is, with_octets, eight, four, target_of}
-use Rattle.answer.specs.Answer.{ascii, word}
-use Rattle.line.proofs.Fields.{first-number, number_read}
+use Rattle.answer.specs.Answer.{word}
 use Rattle.answer.specs.declared.Room.{Room}
 use Rattle.answer.specs.Said.{Answered}
 use Rattle.scenario_wire_words.specs.Words.{written_words}
 use Rattle.answer.proofs.Said.{not_answered}
-use Rattle.scenario_data.specs.Data.{Said, numbers_of, is_run, run_said, or_none, types_said, done_words, convert_words, convert_answer, keeping, data_said, Describes}
+use Rattle.scenario_data.specs.Data.{Said, numbers_of, is_run, run_said, done_words, convert_words, keeping, Describes}
 
 -- one number more
 numbers_more : (i : ℕ) (s : List ℕ) → numbers_of (suc i) s ≡ numbers_of i s ++ (big (part 4 (4 * i) s) ∷ [])
@@ -33,38 +28,32 @@ numbers_more zero s = refl
 numbers_more (suc i) s =
     let e : 4 + 4 * i ≡ 4 * suc i = omega arith in
     ap (λ (l : List ℕ). big (take 4 s) ∷ l) (numbers_more i (drop 4 s))
-    ∙ ap (λ (t : List ℕ). big (take 4 s) ∷ (numbers_of i (drop 4 s) ++ (big (take 4 t) ∷ []))) (drop-drop (4 * i) 4 s ∙ ap (λ (k : ℕ). drop k s) e)
+    ∙ ap (λ (t : List ℕ). big (take 4 s) ∷ (numbers_of i (drop 4 s) ++ (big (take 4 t) ∷ [])))
+    (drop-drop (4 * i) 4 s ∙ ap (λ (k : ℕ). drop k s) e)
 
-numbers-length : (i : ℕ) (s : List ℕ) → length (numbers_of i s) ≡ i
-numbers-length zero s = refl
-numbers-length (suc i) s = ap suc (numbers-length i (drop 4 s))
+numbers_length : (i : ℕ) (s : List ℕ) → length (numbers_of i s) ≡ i
+numbers_length zero s = refl
+numbers_length (suc i) s = ap suc (numbers_length i (drop 4 s))
 
 seam : (xs : List ℕ) (y v : ℕ) (ys : List ℕ) → set (xs ++ (y ∷ ys)) (length xs) v ≡ xs ++ (v ∷ ys)
 seam [] y v ys = refl
 seam (x ∷ xs) y v ys = ap (λ (l : List ℕ). x ∷ l) (seam xs y v ys)
 
 -- a run of which the first i numbers are written
-pub filled_more : (run s : List ℕ) (i : ℕ) → i < length run → set (numbers_of i s ++ drop i run) i (big (part 4 (4 * i) s)) ≡ numbers_of (i + 1) s ++ drop (i + 1) run
+pub filled_more : (run s : List ℕ) (i : ℕ) → i < length run →
+    set (numbers_of i s ++ drop i run) i (big (part 4 (4 * i) s)) ≡ numbers_of (i + 1) s ++ drop (i + 1) run
 filled_more run s i h =
     let v : ℕ = big (part 4 (4 * i) s) in
-    ap₂ (λ (l : List ℕ) (k : ℕ). set (numbers_of i s ++ l) k v) (drop-cons run i 0 h) (sym (numbers-length i s))
+    ap₂ (λ (l : List ℕ) (k : ℕ). set (numbers_of i s ++ l) k v) (drop-cons run i 0 h) (sym (numbers_length i s))
     ∙ seam (numbers_of i s) (get_or run i 0) v (drop (suc i) run)
     ∙ sym (append_assoc (numbers_of i s) (v ∷ []) (drop (suc i) run))
     ∙ ap (λ (l : List ℕ). l ++ drop (suc i) run) (sym (numbers_more i s))
     ∙ ap (λ (k : ℕ). numbers_of k s ++ drop k run) (sym (add-one i))
 
-pub filled-all : (run s : List ℕ) (n : ℕ) → numbers_of n s ++ drop n run ≡ put 0 (numbers_of n s) run
-filled-all run s n = ap (λ (k : ℕ). numbers_of n s ++ drop k run) (sym (zero-add (length (numbers_of n s)) ∙ numbers-length n s))
-
--- what a line leaves, said in other words
-pub describes_as : {x y : Option Said} {numbers left : ℕ} {run memory : List ℕ} {a b : Room} {r : Maybe (Unit {0})}
-    → x ≡ y → Describes y numbers run a r left memory b → Describes x numbers run a r left memory b
-describes_as e p = rw e p
-
 -- a line that says nothing
-pub describes_none : {x : Option Said} → x ≡ none → (numbers : ℕ) (run : List ℕ) (a : Room)
-    → Describes x numbers run a None numbers run a
-describes_none e numbers run a = rw e (record { words = not_answered refl a; counted = refl; lent = refl })
+pub describes_none : {x : Option Said} {numbers : ℕ} {run : List ℕ} {a : Room} {r : Maybe (Unit {0})} → r ≡ None →
+    x ≡ none → Describes x numbers run a r numbers run a
+describes_none {a = a} i e = rw (i, e) (record { words = not_answered refl a; counted = refl; lent = refl })
 
 -- a conversion leaves the run
 pub describes_kept : (x : Option (List (List ℕ))) {numbers : ℕ} {run : List ℕ} {a b : Room} {r : Maybe (Unit {0})}
@@ -72,34 +61,25 @@ pub describes_kept : (x : Option (List (List ℕ))) {numbers : ℕ} {run : List 
 describes_kept none p = record { words = p; counted = refl; lent = refl }
 describes_kept (some ws) p = record { words = p; counted = refl; lent = refl }
 
--- the line of a run
-module _ (run s : List ℕ) (b : Field) where
-  pub types-is : b ≡ read_to 0 5 → types_said run s ≡ or_none (with_octets s b (run_said run))
-  unfolding types_said
-  types-is e = ap (λ (f : Field). or_none (with_octets s f (run_said run))) (sym e)
-
-  pub types-bad : b ≡ read_to 0 5 → with_octets s b (run_said run) ≡ none → types_said run s ≡ none
-  types-bad e d = types-is e ∙ ap or_none d
-
 module _ (run d : List ℕ) (n : ℕ) where
   -- octets that are a run
-  pub run-said : n ≡ length d → is_run n (length run) ≡ true
+  pub run_is_said : n ≡ length d → is_run n (length run) ≡ true
       → run_said run d
       ≡ some (record { words = word "ok"; numbers = n / 4; run = put 0 (numbers_of (n / 4) d) run })
   unfolding run_said
-  run-said e h = rw (sym e, h) refl
+  run_is_said e h = rw (sym e, h) refl
 
   -- octets that are none
-  pub run-bad : n ≡ length d → is_run n (length run) ≡ false → run_said run d ≡ none
+  pub run_is_bad : n ≡ length d → is_run n (length run) ≡ false → run_said run d ≡ none
   unfolding run_said
-  run-bad e h = rw (sym e, h) refl
+  run_is_bad e h = rw (sym e, h) refl
 
 -- a conversion's answer
-pub written-words : (form : Form) (done run : List ℕ) (id : ℕ) (before d : List ℕ) (c : Result ℕ Refusal) (target : List ℕ)
-    → Converts (whole_of form run id d) (length d) before c target
+pub written_as : (form : Form) (done run : List ℕ) (id : ℕ) (before d : List ℕ) (c : Result ℕ Refusal)
+    (target : List ℕ) → Converts (whole_of form run id d) (length d) before c target
     → written_words done c target ≡ convert_words form done run id before d
 unfolding convert_words
-written-words form done run id before d c target x = go (refusal_of w (length d) (length before)) x.answers x.leaves
+written_as form done run id before d c target x = go (refusal_of w (length d) (length before)) x.answers x.leaves
   where
     w : Walked
     w = whole_of form run id d
@@ -108,33 +88,3 @@ written-words form done run id before d c target x = go (refusal_of w (length d)
         → written_words done c target ≡ done_words done v (length d) (put 0 (done_of w) before)
     go (Ok u) e k = rw (e, k) refl
     go (Err r) e k = rw e refl
-
--- the line of a conversion
-module _ (form : Form) (done run s : List ℕ) (b id room : Field) where
-  pub convert-is : b ≡ read_to 0 6 → id ≡ number_field s b 8 → room ≡ number_field s id 4
-      → convert_answer form done run s
-      ≡ with_octets s room (convert_words form done run (eight id) (target_of (four room)))
-  unfolding convert_answer
-  convert-is e1 e2 e3 = first-number s b (read_to 0 6) id 8 _ e1 e2 (number_read s id room 4 _ e3 refl)
-
--- a line by its verb
-module _ (numbers : ℕ) (run s : List ℕ) where
-  pub by-types : verb_is s (ascii "types") ≡ true → data_said numbers run s ≡ types_said run s
-  unfolding data_said
-  by-types e1 = rw e1
-
-  module _ (n1 : verb_is s (ascii "types") ≡ false) where
-    pub by-tohost : verb_is s (ascii "tohost") ≡ true
-        → data_said numbers run s ≡ keeping numbers run (convert_answer Wire (ascii "host") (take numbers run) s)
-    unfolding data_said
-    by-tohost e2 = rw (n1, e2)
-
-    module _ (n2 : verb_is s (ascii "tohost") ≡ false) where
-      pub by-towire : verb_is s (ascii "towire") ≡ true
-          → data_said numbers run s ≡ keeping numbers run (convert_answer Host (ascii "wire") (take numbers run) s)
-      unfolding data_said
-      by-towire e3 = rw (n1, n2, e3)
-
-      pub by-none : verb_is s (ascii "towire") ≡ false → data_said numbers run s ≡ none
-      unfolding data_said
-      by-none n3 = rw (n1, n2, n3)

@@ -1,5 +1,6 @@
 -- The calls over a description run: what a line says, the words of its answer, and the run after it.
-use Rattle.std.specs.Prelude.{ℕ, zero, suc, ◌/◌, ◌%◌, ◌≡◌, List, [], ◌∷◌, Bool, cond, ◌&&◌, eqb, leb, length, take, drop, Result, Ok, Err, Option as Maybe}
+use Rattle.std.specs.Prelude.{ℕ, zero, suc, ◌/◌, ◌%◌, ◌≡◌, List, [], ◌∷◌, Bool, cond, ◌&&◌, eqb, leb, length}
+use Rattle.std.specs.Prelude.{take, drop, Result, Ok, Err, Option as Maybe}
 use Rattle.std.proofs.Math.Option.{Option, none, some}
 use Rattle.octets.specs.Octets.{big, put}
 use Rattle.dataset.specs.declared.Form.{Form}
@@ -7,7 +8,7 @@ use Rattle.dataset.specs.declared.Form.TheVariants.{Wire, Host}
 use Rattle.refusal.specs.declared.Refusal.{Refusal}
 use Rattle.refusal.specs.Refusal as refusal
 use Rattle.dataset.specs.Walk.{whole_of, refusal_of, done_of}
-use Rattle.line.specs.Line.{read_to, verb_is, with_number, with_octets, eight, four, target_of, target_words}
+use Rattle.line.specs.Line.{verb_is, with_number, with_octets, eight, four, target_of, target_words}
 use Rattle.answer.specs.Answer.{ascii, word, refused}
 use Rattle.answer.specs.declared.Room.{Room}
 use Rattle.answer.specs.Said.{Answered}
@@ -40,7 +41,7 @@ or_none (some x) = x
 
 -- `types OCTETS`
 unfoldable pub types_said : List ℕ → List ℕ → Option Said
-types_said run s = or_none (with_octets s (read_to 0 5) (run_said run))
+types_said run s = or_none (with_octets (drop 5 s) (run_said run))
 
 -- a conversion's answer beside its target, where no check refuses: a word, LENGTH and the whole TARGET; or the first
 -- check's refusal
@@ -57,16 +58,17 @@ convert_words form done run id before d =
 -- ID(8) ROOM(4) OCTETS behind a verb of 6 letters
 unfoldable pub convert_answer : Form → List ℕ → List ℕ → List ℕ → Option (List (List ℕ))
 convert_answer form done run s =
-    with_number s (read_to 0 6) 8
-    (λ id. with_number s id 4
-    (λ room. with_octets s room (convert_words form done run (eight id) (target_of (four room)))))
+    with_number (drop 6 s) 8
+    (λ id left. with_number left 4
+    (λ room left. with_octets left (convert_words form done run (eight id) (target_of (four room)))))
 
 -- an answer that leaves the run as it was
 abbrev pub keeping : ℕ → List ℕ → Option (List (List ℕ)) → Option Said
 keeping numbers run none = none
 keeping numbers run (some ws) = some (record { words = ws; numbers = numbers; run = run })
 
--- a line of these verbs, where the run is the first numbers of the memory lent: `tohost` takes wire data, `towire` host data
+-- a line of these verbs, where the run is the first numbers of the memory lent:
+-- `tohost` takes wire data, `towire` host data
 unfoldable pub data_said : ℕ → List ℕ → List ℕ → Option Said
 data_said numbers run s =
     cond (verb_is s (ascii "types")) (types_said run s)
@@ -89,8 +91,8 @@ run_after run (some x) = x.run
 
 -- what a line's call answers, and what it leaves of the run, the memory lent for it, and the room
 pub record Describes
-    (said : Option Said) (numbers : ℕ) (run : List ℕ) (before : Room) (r : Maybe (Unit {0})) (left : ℕ) (memory : List ℕ)
-    (out : Room) : Type 0 where
+    (said : Option Said) (numbers : ℕ) (run : List ℕ) (before : Room) (r : Maybe (Unit {0})) (left : ℕ)
+    (memory : List ℕ) (out : Room) : Type 0 where
   pub words : Answered (words_of said) before r out
   pub counted : left ≡ numbers_after numbers said
   pub lent : memory ≡ run_after run said

@@ -1,4 +1,5 @@
-// The calls over a description run: `types`, `tohost` and `towire`. The run is the first numbers of lent memory.
+// The calls over a description run: `types`, `tohost` and `towire`. The run is the first numbers of lent memory, and how
+// many they are stands beside it: memory is fixed.
 // Each fills the room with its answer; nothing where the line is none of its own.
 #![tactic(auto)]
 
@@ -9,6 +10,7 @@ ghost use Rattle.scenario_data.specs.Data.{numbers_of, is_run, types_said, conve
 
 use answer::Room;
 use dataset::Form;
+use line::reader::Fields;
 use octets::Number;
 
 // The first n of the numbers lent, or all where they are fewer.
@@ -35,18 +37,19 @@ fn is_run(n: usize, room: usize) -> bool
     n % 4 == 0 && n / 4 <= room
 }
 
+// Each verb reads the line s, uses the run and fills out; of one value each would have to take the three out again.
+
 // `types OCTETS`
 fn types(numbers: &mut usize, run: &mut [u32], s: &[u8], out: &mut Room) -> Option<()>
     ensures { Describes (types_said run.old s.now) numbers.old run.old out.old result numbers.new run.new out.new }
 {
     let mut data = line::buffer();
-    let d = line::octets(s, line::behind(5), &mut data);
-    if d.is_bad || !is_run(d.count, run.len()) {
+    let n = Fields::behind(s, 5).last(&mut data)?;
+    if !is_run(n, run.len()) {
         return None;
     }
-    let n = d.count / 4;
-    fill(run, n, &data[..d.count]);
-    *numbers = n;
+    fill(run, n / 4, &data[..n]);
+    *numbers = n / 4;
     out.word(b"ok");
     Some(())
 }
@@ -55,27 +58,21 @@ fn types(numbers: &mut usize, run: &mut [u32], s: &[u8], out: &mut Room) -> Opti
 fn convert(form: Form, done: &[u8], run: &[u32], s: &[u8], out: &mut Room) -> Option<()>
     ensures { Answered (convert_answer form done.now run.now s.now) out.old result out.new }
 {
-    let id = line::number(s, line::behind(6), 8);
-    let room = line::number(s, id, 4);
+    let mut fields = Fields::behind(s, 6);
+    let id = fields.word()?;
+    let room = fields.half()?;
     let mut data = line::buffer();
-    let d = line::octets(s, room, &mut data);
-    if d.is_bad {
-        return None;
-    }
+    let n = fields.last(&mut data)?;
+    // Ends as scenario_wire's writers do, and stays apart as they do.
     let mut target = line::fresh_target();
-    let e = line::room_of(room, &target);
-    let converted = dataset::convert(
-        form,
-        run,
-        line::word(id),
-        &data[..d.count],
-        &mut target[..e],
-    );
-    scenario_wire_words::put_written(out, done, converted, &target[..e]);
+    let target = &mut target[..usize::from(room)];
+    let converted = dataset::convert(form, run, id, &data[..n], target);
+    scenario_wire_words::put_written(out, done, converted, target);
     Some(())
 }
 
 // A line of one of these verbs answered; a bad one leaves the run.
+#[tactic(auto, using(crate::proofs::Described::describes_kept), unfolding(crate::specs::Data::data_said))]
 pub fn answer(numbers: &mut usize, run: &mut [u32], s: &[u8], out: &mut Room) -> Option<()>
     ensures { Describes (data_said numbers.old run.old s.now) numbers.old run.old out.old result
         numbers.new run.new out.new }

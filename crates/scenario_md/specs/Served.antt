@@ -1,11 +1,13 @@
--- What a line's answer is, and the octets of listeners and sessions and the statistics after it: those of the rules; as they were where it asks nothing.
+-- What a line's answer is, and the octets of listeners and sessions and the statistics after it: those of the rules;
+-- as they were where it asks nothing.
 use Rattle.std.specs.Prelude.{ℕ, ◌≡◌, List, get_or, Option as Given}
 use Rattle.std.proofs.Math.Option.{Option, none, some}
 use Rattle.answer.specs.declared.Room.{Room}
 use Rattle.answer.specs.Said.{Answered}
 use Rattle.statistics.specs.declared.Statistics.{Statistics}
 use Rattle.session.specs.Session.{free_session}
-use Rattle.session_table.specs.Table.{Tables, Call, listen, unlisten, calling, telegram, reply, confirm, time_check, Answer, step}
+use Rattle.session_table.specs.Table.{Tables, Call, listen, unlisten, calling, telegram, reply, confirm, time_check}
+use Rattle.session_table.specs.Table.{Answer, step}
 use Rattle.messages.specs.History.{statistics_after}
 use Rattle.packed.specs.Packed.{tables_of}
 use Rattle.packed_slots.specs.Calls.{octets_after}
@@ -44,7 +46,8 @@ statistics_of (some (calls c)) t s = statistics_after c (step c t).answer s
 statistics_of (some (looks k)) t s = s
 
 -- a user's line, its answer put into a room; it counts nothing
-pub record Serves (q : Option Asked) (octets : List ℕ) (before : Room) (r : Given (Unit {0})) (octets' : List ℕ) (after : Room) : Type 0 where
+pub record Serves (q : Option Asked) (octets : List ℕ) (before : Room) (r : Given (Unit {0}))
+    (octets' : List ℕ) (after : Room) : Type 0 where
   pub words : Answered (words_of q (tables_of octets)) before r after
   pub means : tables_of octets' ≡ tables_after q (tables_of octets)
   pub leaves : octets' ≡ octets_left q octets

@@ -1,133 +1,200 @@
-// The calls over listeners and sessions. Each fills the room with its answer; nothing where the line is none of its own.
+// The calls over listeners and sessions. A line is read, what it asks is served, and its answer fills the room; nothing
+// where the line is none of these.
 #![tactic(auto)]
 
-ghost use Rattle.std.specs.Prelude.{Some};
+ghost use Rattle.std.specs.Prelude.{◌≡◌, Some};
 ghost use Rattle.std.proofs.Math.Option.{some};
 ghost use Rattle.session_table.specs.Table.{telegram};
-ghost use Rattle.scenario_md.specs.Lines.{calls, listen_asked, unlisten_asked, call_asked, md_asked, reply_asked, confirm_asked, check_asked, session_asked, look_asked, exchange_asked, user_asked, asked_of};
+ghost use Rattle.scenario_md.specs.Lines.{calls, listen_asked, unlisten_asked, call_asked, md_asked, reply_asked};
+ghost use Rattle.scenario_md.specs.Lines.{confirm_asked, check_asked, session_asked, user_asked, asked_of};
+ghost use Rattle.scenario_md.specs.Read.{asked_by, asked_if};
 ghost use Rattle.scenario_md.specs.Served.{Serves, Answers};
 
 use address::SenderRange;
 use answer::Room;
 use arrival::Arrival;
+use line::reader::Fields;
 use statistics::Statistics;
 use telegram::Family;
 use topography::TopoCounts;
 
-// `listen COMID START END URI`
-fn listen(tables: &mut [u8; 1280], s: &[u8], out: &mut Room) -> Option<()>
-    ensures { Serves (listen_asked s.now) tables.old out.old result tables.new out.new }
-{
-    let mut uri = [0u8; 32];
-    let com_id = line::number(s, line::behind(6), 8);
-    let start = line::number(s, com_id, 8);
-    let end = line::number(s, start, 8);
-    let last = line::octets_field(s, end, &mut uri);
-    if line::is_end(s, last) {
-        let senders = SenderRange {
-            start: line::word(start),
-            end: line::word(end),
-        };
-        let listening = sessions::listen(tables, line::word(com_id), senders, uri);
-        scenario_md_words::put_granted(out, b"listener", listening);
-        return Some(());
-    }
-    None
+// What a line of one of the user's verbs asks. A type is a number, as `sessions::reply` is given any.
+#[derive(Clone, Copy)]
+enum Asked {
+    Listen {
+        com_id: u32,
+        senders: SenderRange,
+        uri: [u8; 32],
+    },
+    // The listener's slot.
+    Unlisten(usize),
+    Call {
+        id: [u8; 16],
+        timeout: u32,
+        time: u64,
+    },
+    Reply {
+        session: usize,
+        msg_type: u16,
+        timeout: u32,
+        time: u64,
+    },
+    Confirm {
+        session: usize,
+    },
+    Check {
+        time: u64,
+    },
+    // What the record of a session's slot says.
+    Session(usize),
 }
 
-// `unlisten K`
-fn unlisten(tables: &mut [u8; 1280], s: &[u8], out: &mut Room) -> Option<()>
-    ensures { Serves (unlisten_asked s.now) tables.old out.old result tables.new out.new }
+// `listen COMID START END URI`
+fn listen(s: &[u8]) -> Option<Asked>
+    ensures { asked_if result ≡ listen_asked s.now }
 {
-    let k = line::number(s, line::behind(8), 8);
-    if line::is_end(s, k) {
-        let freed = sessions::unlisten(tables, line::word(k) as usize);
-        scenario_md_words::put_done(out, b"freed", freed);
-        return Some(());
-    }
-    None
+    let mut fields = Fields::behind(s, 6);
+    let [com_id, start, end] = fields.words::<3>()?;
+    let uri = fields.array()?;
+    fields.end()?;
+    Some(Asked::Listen {
+        com_id,
+        senders: SenderRange { start, end },
+        uri,
+    })
+}
+
+// `unlisten K`. Some verbs read alike: what they share are the methods of Fields, and each asks a variant of its own.
+fn unlisten(s: &[u8]) -> Option<Asked>
+    ensures { asked_if result ≡ unlisten_asked s.now }
+{
+    let mut fields = Fields::behind(s, 8);
+    let k = fields.word()?;
+    fields.end()?;
+    Some(Asked::Unlisten(k as usize))
 }
 
 // `call ID TIMEOUT NOW`
-fn call(tables: &mut [u8; 1280], s: &[u8], out: &mut Room) -> Option<()>
-    ensures { Serves (call_asked s.now) tables.old out.old result tables.new out.new }
+fn call(s: &[u8]) -> Option<Asked>
+    ensures { asked_if result ≡ call_asked s.now }
 {
-    let mut id = [0u8; 16];
-    let field = line::octets_field(s, line::behind(4), &mut id);
-    let timeout = line::number(s, field, 8);
-    let time = line::number(s, timeout, 16);
-    if line::is_end(s, time) {
-        let opened = sessions::call(tables, id, line::word(timeout), time.value);
-        scenario_md_words::put_granted(out, b"session", opened);
-        return Some(());
-    }
-    None
+    let mut fields = Fields::behind(s, 4);
+    let id = fields.array()?;
+    let timeout = fields.word()?;
+    let time = fields.number(16)?;
+    fields.end()?;
+    Some(Asked::Call { id, timeout, time })
 }
 
 // `reply K TYPE TIMEOUT NOW`
-fn reply(tables: &mut [u8; 1280], s: &[u8], out: &mut Room) -> Option<()>
-    ensures { Serves (reply_asked s.now) tables.old out.old result tables.new out.new }
+fn reply(s: &[u8]) -> Option<Asked>
+    ensures { asked_if result ≡ reply_asked s.now }
 {
-    let k = line::number(s, line::behind(5), 8);
-    let kind = line::number(s, k, 4);
-    let timeout = line::number(s, kind, 8);
-    let time = line::number(s, timeout, 16);
-    if line::is_end(s, time) {
-        let replied = sessions::reply(
-            tables,
-            line::word(k) as usize,
-            line::half(kind),
-            line::word(timeout),
-            time.value,
-        );
-        scenario_md_words::put_done(out, b"replied", replied);
-        return Some(());
-    }
-    None
+    let mut fields = Fields::behind(s, 5);
+    let k = fields.word()?;
+    let msg_type = fields.half()?;
+    let timeout = fields.word()?;
+    let time = fields.number(16)?;
+    fields.end()?;
+    Some(Asked::Reply {
+        session: k as usize,
+        msg_type,
+        timeout,
+        time,
+    })
 }
 
-// `confirm K NOW`
-fn confirm(tables: &mut [u8; 1280], s: &[u8], out: &mut Room) -> Option<()>
-    ensures { Serves (confirm_asked s.now) tables.old out.old result tables.new out.new }
+// `confirm K NOW`, whose time asks nothing.
+fn confirm(s: &[u8]) -> Option<Asked>
+    ensures { asked_if result ≡ confirm_asked s.now }
 {
-    let k = line::number(s, line::behind(7), 8);
-    let time = line::number(s, k, 16);
-    if line::is_end(s, time) {
-        let confirmed = sessions::confirm(tables, line::word(k) as usize);
-        scenario_md_words::put_done(out, b"confirmed", confirmed);
-        return Some(());
-    }
-    None
+    let mut fields = Fields::behind(s, 7);
+    let k = fields.word()?;
+    fields.number(16)?;
+    fields.end()?;
+    Some(Asked::Confirm {
+        session: k as usize,
+    })
 }
 
 // `mdcheck NOW`
-fn check(tables: &mut [u8; 1280], s: &[u8], out: &mut Room) -> Option<()>
-    ensures { Serves (check_asked s.now) tables.old out.old result tables.new out.new }
+fn check(s: &[u8]) -> Option<Asked>
+    ensures { asked_if result ≡ check_asked s.now }
 {
-    let time = line::number(s, line::behind(7), 16);
-    if line::is_end(s, time) {
-        let codes = sessions::time_check(tables, time.value);
-        scenario_md_words::put_codes(out, codes);
-        return Some(());
-    }
-    None
+    let mut fields = Fields::behind(s, 7);
+    let time = fields.number(16)?;
+    fields.end()?;
+    Some(Asked::Check { time })
 }
 
 // `session K`
-fn session(tables: &[u8; 1280], s: &[u8], out: &mut Room) -> Option<()>
-    ensures { Serves (session_asked s.now) tables.now out.old result tables.now out.new }
+fn session(s: &[u8]) -> Option<Asked>
+    ensures { asked_if result ≡ session_asked s.now }
 {
-    let k = line::number(s, line::behind(7), 8);
-    if line::is_end(s, k) {
-        let slot = line::word(k) as usize;
-        let x = packed_slots::session_at(tables, slot);
-        scenario_md_words::put_slot(out, slot, &x);
-        return Some(());
-    }
-    None
+    let mut fields = Fields::behind(s, 7);
+    let k = fields.word()?;
+    fields.end()?;
+    Some(Asked::Session(k as usize))
 }
 
-// An MD datagram arrives, and is counted.
+// A line of one of the user's verbs; nothing for another.
+#[tactic(auto, unfolding(crate::specs::Lines::user_asked))]
+fn parse(s: &[u8]) -> Option<Asked>
+    ensures { asked_if result ≡ user_asked s.now }
+{
+    if line::is_verb(s, b"listen") {
+        listen(s)
+    } else if line::is_verb(s, b"unlisten") {
+        unlisten(s)
+    } else if line::is_verb(s, b"call") {
+        call(s)
+    } else if line::is_verb(s, b"reply") {
+        reply(s)
+    } else if line::is_verb(s, b"confirm") {
+        confirm(s)
+    } else if line::is_verb(s, b"mdcheck") {
+        check(s)
+    } else if line::is_verb(s, b"session") {
+        session(s)
+    } else {
+        None
+    }
+}
+
+// What was asked served, and the answer put.
+fn serve(asked: Asked, tables: &mut [u8; 1280], out: &mut Room)
+    ensures { Serves (some (asked_by asked)) tables.old out.old (Some tt) tables.new out.new }
+{
+    match asked {
+        Asked::Listen {
+            com_id,
+            senders,
+            uri,
+        } => out.granted(b"listener", sessions::listen(tables, com_id, senders, uri)),
+        Asked::Unlisten(k) => out.done(b"freed", sessions::unlisten(tables, k)),
+        Asked::Call { id, timeout, time } => {
+            out.granted(b"session", sessions::call(tables, id, timeout, time))
+        }
+        Asked::Reply {
+            session,
+            msg_type,
+            timeout,
+            time,
+        } => out.done(
+            b"replied",
+            sessions::reply(tables, session, msg_type, timeout, time),
+        ),
+        Asked::Confirm { session } => out.done(b"confirmed", sessions::confirm(tables, session)),
+        Asked::Check { time } => {
+            scenario_md_words::put_codes(out, sessions::time_check(tables, time))
+        }
+        Asked::Session(k) => {
+            scenario_md_words::put_slot(out, k, &packed_slots::session_at(tables, k))
+        }
+    }
+}
+
+// An MD datagram arrives, and is counted. Tables, statistics and room are lent apart: each is the program's own.
 fn receive(
     tables: &mut [u8; 1280],
     statistics: &mut Statistics,
@@ -151,67 +218,22 @@ fn md(
     s: &[u8],
     out: &mut Room,
 ) -> Option<()>
-    ensures { Answers (md_asked local s.now) tables.old statistics.old out.old result tables.new statistics.new out.new }
+    ensures { Answers (md_asked local s.now) tables.old statistics.old out.old result tables.new statistics.new
+        out.new }
 {
-    let sender = line::number(s, line::behind(2), 8);
-    let destination = line::number(s, sender, 8);
-    let time = line::number(s, destination, 16);
+    let mut fields = Fields::behind(s, 2);
+    let [sender, destination] = fields.words::<2>()?;
+    let time = fields.number(16)?;
     let mut data = line::buffer();
-    let d = line::octets(s, time, &mut data);
-    if d.is_bad {
-        return None;
-    }
-    let n = d.count;
+    let n = fields.last(&mut data)?;
     let a = Arrival {
-        sender: line::word(sender),
-        destination: line::word(destination),
-        time: time.value,
+        sender,
+        destination,
+        time,
         local,
     };
     receive(tables, statistics, a, &data[..n], out);
     Some(())
-}
-
-// A line that looks at sessions answered.
-fn look(tables: &mut [u8; 1280], s: &[u8], out: &mut Room) -> Option<()>
-    ensures { Serves (look_asked s.now) tables.old out.old result tables.new out.new }
-{
-    if line::is_verb(s, b"mdcheck") {
-        return check(tables, s, out);
-    }
-    if line::is_verb(s, b"session") {
-        return session(tables, s, out);
-    }
-    None
-}
-
-// The same, or one that opens, answers or confirms a session.
-fn exchange(tables: &mut [u8; 1280], s: &[u8], out: &mut Room) -> Option<()>
-    ensures { Serves (exchange_asked s.now) tables.old out.old result tables.new out.new }
-{
-    if line::is_verb(s, b"call") {
-        return call(tables, s, out);
-    }
-    if line::is_verb(s, b"reply") {
-        return reply(tables, s, out);
-    }
-    if line::is_verb(s, b"confirm") {
-        return confirm(tables, s, out);
-    }
-    look(tables, s, out)
-}
-
-// The same, or one over listeners: a line of one of the user's verbs answered.
-fn user(tables: &mut [u8; 1280], s: &[u8], out: &mut Room) -> Option<()>
-    ensures { Serves (user_asked s.now) tables.old out.old result tables.new out.new }
-{
-    if line::is_verb(s, b"listen") {
-        return listen(tables, s, out);
-    }
-    if line::is_verb(s, b"unlisten") {
-        return unlisten(tables, s, out);
-    }
-    exchange(tables, s, out)
 }
 
 // A line of one of these verbs answered.
@@ -222,10 +244,12 @@ pub fn answer(
     s: &[u8],
     out: &mut Room,
 ) -> Option<()>
-    ensures { Answers (asked_of local s.now) tables.old statistics.old out.old result tables.new statistics.new out.new }
+    ensures { Answers (asked_of local s.now) tables.old statistics.old out.old result tables.new statistics.new
+        out.new }
 {
     if line::is_verb(s, b"md") {
         return md(tables, statistics, local, s, out);
     }
-    user(tables, s, out)
+    serve(parse(s)?, tables, out);
+    Some(())
 }

@@ -1,6 +1,6 @@
 -- Codes one after the other.
 -- Assumes nothing.
-use Rattle.std.proofs.Common.{◌≡◌, refl, sym, ap, ◌∙◌, ℕ, zero, suc, ◌+◌, ◌<◌, List, [], ◌∷◌, ◌++◌, length, get_or, take, append_assoc, append-nil, add-one, arith, ℤ}
+use Rattle.std.proofs.Common.{◌≡◌, sym, ℕ, zero, suc, ◌+◌, ◌<◌, List, [], ◌∷◌, ◌++◌, length, get_or, take, append_assoc, append-nil, add-one, arith, ℤ}
 use Rattle.answer.specs.Answer.{signed}
 use Rattle.scenario_md_words.specs.Words.{all_signed}
 

@@ -1,8 +1,7 @@
 -- What the calls over listeners and sessions answer, in words.
-use Rattle.std.specs.Prelude.{ℕ, cond, List, [], ◌∷◌, ◌++◌, ltb, ℤ, Ok, Err, Result}
+use Rattle.std.specs.Prelude.{ℕ, cond, List, [], ◌∷◌, ◌++◌, ltb, ℤ}
 use Rattle.octets.specs.Octets.{unsigned}
 use Rattle.refusal.specs.Refusal.{number as number_of}
-use Rattle.refusal.specs.declared.Refusal.{Refusal}
 use Rattle.refusal.specs.declared.Refusal.TheVariants as refusals
 use Rattle.timing.specs.declared.Timing.{Timing}
 use Rattle.answer.specs.Answer.{ascii, spaced, word, word_of, decimal, number, octets, signed, refused}
@@ -11,16 +10,6 @@ use Rattle.session.specs.declared.SessionState.{SessionState}
 use Rattle.session.specs.declared.SessionState.TheVariants.{Free, WaitingForReply, OwingConfirm, WithUser, WaitingForConfirm}
 use Rattle.session_table.specs.Table as table
 use Rattle.session_table.specs.Table.{Answer, listening, freed, opened, notified, requested, taken, replied, confirmed, codes}
-
--- a slot granted, behind its word; or the refusal's number
-abbrev pub granted_words : List ℕ → Result ℕ Refusal → List (List ℕ)
-granted_words w (Ok k) = word_of w k
-granted_words w (Err r) = refused (number_of r)
-
--- what was done, in a word; or the refusal's number
-abbrev pub done_words : List ℕ → Result (Unit {0}) Refusal → List (List ℕ)
-done_words w (Ok u) = spaced w
-done_words w (Err r) = refused (number_of r)
 
 -- signed numbers one after the other
 abbrev pub all_signed : List ℤ → List (List ℕ)

@@ -6,33 +6,13 @@ ghost use Rattle.session_table.specs.Calls.{heard};
 ghost use Rattle.answer.specs.Answer.{number};
 ghost use Rattle.octets.specs.Octets.{unsigned};
 ghost use Rattle.session_table.specs.Table.{requested, taken, refused, codes as codes_told};
-ghost use Rattle.scenario_md_words.specs.Words.{granted_words, done_words, answer_words, heard_words, used_words, record_words, slot_words};
+ghost use Rattle.scenario_md_words.specs.Words.{answer_words, heard_words, used_words, record_words, slot_words};
 
 use answer::Room;
 use refusal::Refusal;
 use session::{Session, SessionState};
 use session_table::{Arrived, MdRefusal};
 use timing::Timing;
-
-// A slot granted, behind its word; or the refusal's number.
-pub fn put_granted(out: &mut Room, word: &[u8], granted: Result<usize, Refusal>)
-    ensures { Fills (granted_words word.now granted) out.old out.new }
-{
-    match granted {
-        Ok(k) => out.word_of(word, k),
-        Err(r) => out.refused(r.into()),
-    }
-}
-
-// What was done, in a word; or the refusal's number.
-pub fn put_done(out: &mut Room, word: &[u8], done: Result<(), Refusal>)
-    ensures { Fills (done_words word.now done) out.old out.new }
-{
-    match done {
-        Ok(()) => out.word(word),
-        Err(r) => out.refused(r.into()),
-    }
-}
 
 // A request: the listener and the session's slot.
 fn put_requested(out: &mut Room, listener: usize, session: usize)
@@ -62,7 +42,7 @@ fn put_taken(out: &mut Room, status: i32, session: usize)
 fn put_refused(out: &mut Room, e: MdRefusal)
     ensures { Fills (heard_words (refused e.refusal e.status)) out.old out.new }
 {
-    out.refused(e.refusal.into());
+    out.refused(e.refusal);
     put_status(out, e.status);
 }
 
@@ -119,6 +99,6 @@ pub fn put_slot(out: &mut Room, k: usize, x: &Session)
     if k < 16 {
         put_session(out, x);
     } else {
-        out.refused(Refusal::NoSlot.into());
+        out.refused(Refusal::NoSlot);
     }
 }

@@ -1,1 +1,3 @@
+mod Fields
 mod Turning
+mod Verbs

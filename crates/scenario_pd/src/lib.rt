@@ -5,14 +5,14 @@
 ghost use Rattle.std.specs.Prelude.{◌≡◌, List, ℕ, Some, replicate};
 ghost use Rattle.subscription.specs.Record.{free_record};
 ghost use Rattle.scenario_pd.specs.Effect.{calling, counting, Turns};
-ghost use Rattle.scenario_pd.specs.Lines.{sub_call, unsub_call, check_call, pd_call};
-ghost use Rattle.scenario_pd.specs.Lines.{lending, allotted, damaging, damaged};
-ghost use Rattle.scenario_pd.specs.Lines.{own_effect, other_effect, Answered};
+ghost use Rattle.scenario_pd.specs.Lines.{sub_call, unsub_call, check_call, pd_call, called, lend_asked, damage_asked};
+ghost use Rattle.scenario_pd.specs.Lines.{wanted_of, wanted, asked_of, allotted, damaged, done_by, Answered};
 
 use address::SenderRange;
 use answer::Room;
 use arrival::Arrival;
 use lent::Slots;
+use line::reader::Fields;
 use refusal::Refusal;
 use statistics::Statistics;
 use subscription::{Filter, Subscription};
@@ -29,66 +29,123 @@ pub fn start() -> Slots
     }
 }
 
-// `sub COMID START END DEST TIMEOUT BEHAVIOUR NOW`
-fn sub(t: &mut Slots, store: &mut [u8], s: &[u8], out: &mut Room) -> Option<()>
-    ensures { Turns (calling (sub_call s.now) t.old store.old) out.old result t.new store.new out.new }
-{
-    let com_id = line::number(s, line::behind(3), 8);
-    let start = line::number(s, com_id, 8);
-    let end = line::number(s, start, 8);
-    let destination = line::number(s, end, 8);
-    let timeout = line::number(s, destination, 8);
-    let behaviour = line::number(s, timeout, 1);
-    let time = line::number(s, behaviour, 16);
-    if !line::is_end(s, time) || 2 < behaviour.value {
-        return None;
-    }
-    let filter = Filter {
-        com_id: line::word(com_id),
-        senders: SenderRange {
-            start: line::word(start),
-            end: line::word(end),
-        },
-        destination: line::word(destination),
-    };
-    let granted = t.subscribe(
-        store,
-        filter,
-        line::word(timeout),
-        behaviour.value as u8,
-        time.value,
-    );
-    scenario_pd_words::put_done(out, b"slot", granted);
-    Some(())
+// What a line asks for: a call over the table; how many slots and octets each call is lent from now on; a record that
+// says another stored length. Behaviour is a number, as the record keeps it and `Slots::subscribe` takes it.
+#[derive(Clone, Copy)]
+enum Asked {
+    Subscribe {
+        filter: Filter,
+        timeout: u32,
+        behaviour: u8,
+        time: u64,
+    },
+    Unsubscribe(usize),
+    TimeCheck {
+        time: u64,
+    },
+    Lend {
+        slots: usize,
+        octets: usize,
+    },
+    Damage {
+        slot: usize,
+        length: u32,
+    },
 }
 
-// `unsub K`
-fn unsub(t: &mut Slots, store: &mut [u8], s: &[u8], out: &mut Room) -> Option<()>
-    ensures { Turns (calling (unsub_call s.now) t.old store.old) out.old result t.new store.new out.new }
+// `sub COMID START END DEST TIMEOUT BEHAVIOUR NOW`
+fn sub(s: &[u8]) -> Option<Asked>
+    ensures { wanted result ≡ called (sub_call s.now) }
 {
-    let k = line::number(s, line::behind(5), 8);
-    if !line::is_end(s, k) {
+    let mut fields = Fields::behind(s, 3);
+    let [com_id, start, end, destination, timeout] = fields.words::<5>()?;
+    let behaviour = fields.number(1)?;
+    let time = fields.number(16)?;
+    if 2 < behaviour {
         return None;
     }
-    let freed = t.unsubscribe(store, line::word(k) as usize);
-    scenario_pd_words::put_freed(out, freed);
-    Some(())
+    fields.end()?;
+    Some(Asked::Subscribe {
+        filter: Filter {
+            com_id,
+            senders: SenderRange { start, end },
+            destination,
+        },
+        timeout,
+        behaviour: behaviour as u8,
+        time,
+    })
+}
+
+// `unsub K`. Some verbs read alike: what they share are the methods of Fields, and each asks a variant of its own.
+fn unsub(s: &[u8]) -> Option<Asked>
+    ensures { wanted result ≡ called (unsub_call s.now) }
+{
+    let mut fields = Fields::behind(s, 5);
+    let k = fields.word()?;
+    fields.end()?;
+    Some(Asked::Unsubscribe(k as usize))
 }
 
 // `check NOW`
-fn check(t: &mut Slots, store: &mut [u8], s: &[u8], out: &mut Room) -> Option<()>
-    ensures { Turns (calling (check_call s.now) t.old store.old) out.old result t.new store.new out.new }
+fn check(s: &[u8]) -> Option<Asked>
+    ensures { wanted result ≡ called (check_call s.now) }
 {
-    let time = line::number(s, line::behind(5), 16);
-    if !line::is_end(s, time) {
-        return None;
+    let mut fields = Fields::behind(s, 5);
+    let time = fields.number(16)?;
+    fields.end()?;
+    Some(Asked::TimeCheck { time })
+}
+
+// `lend SLOTS COUNT`
+fn lend(s: &[u8]) -> Option<Asked>
+    ensures { wanted result ≡ lend_asked s.now }
+{
+    let mut fields = Fields::behind(s, 4);
+    let [slots, octets] = fields.words::<2>()?;
+    fields.end()?;
+    Some(Asked::Lend {
+        slots: slots as usize,
+        octets: octets as usize,
+    })
+}
+
+// `damage K LENGTH`
+fn damage(s: &[u8]) -> Option<Asked>
+    ensures { wanted result ≡ damage_asked s.now }
+{
+    let mut fields = Fields::behind(s, 6);
+    let [slot, length] = fields.words::<2>()?;
+    fields.end()?;
+    Some(Asked::Damage {
+        slot: slot as usize,
+        length,
+    })
+}
+
+// By the verb; nothing for another.
+#[tactic(auto, unfolding(crate::specs::Lines::asked_of))]
+fn parse(s: &[u8]) -> Option<Asked>
+    ensures { wanted result ≡ asked_of s.now }
+{
+    if line::is_verb(s, b"sub") {
+        sub(s)
+    } else if line::is_verb(s, b"unsub") {
+        unsub(s)
+    } else if line::is_verb(s, b"check") {
+        check(s)
+    } else if line::is_verb(s, b"lend") {
+        lend(s)
+    } else if line::is_verb(s, b"damage") {
+        damage(s)
+    } else {
+        None
     }
-    let marked = t.time_check(store, time.value);
-    scenario_pd_words::put_done(out, b"marked", marked);
-    Some(())
 }
 
 // So many slots and octets lent from now on; nothing where there are not so many.
+// `t` and `store` are the program's own records and the octets lent beside them: the calls of `lent::Slots` take them
+// apart, and `out` is a room of another owner.
 fn allot(t: &mut Slots, slots: usize, octets: usize, store: &[u8], out: &mut Room) -> Option<()>
     ensures { Turns (allotted slots octets t.old store.now) out.old result t.new store.now out.new }
 {
@@ -101,24 +158,6 @@ fn allot(t: &mut Slots, slots: usize, octets: usize, store: &[u8], out: &mut Roo
     Some(())
 }
 
-// `lend SLOTS COUNT`
-fn lend(t: &mut Slots, store: &[u8], s: &[u8], out: &mut Room) -> Option<()>
-    ensures { Turns (lending s.now t.old store.now) out.old result t.new store.now out.new }
-{
-    let slots = line::number(s, line::behind(4), 8);
-    let count = line::number(s, slots, 8);
-    if !line::is_end(s, count) {
-        return None;
-    }
-    allot(
-        t,
-        line::word(slots) as usize,
-        line::word(count) as usize,
-        store,
-        out,
-    )
-}
-
 // A record that says another stored length; refusal 10 where there is no such slot.
 fn lengthen(t: &mut Slots, k: usize, n: u32, out: &mut Room)
     ensures { (store : List ℕ) → Turns (damaged k n t.old store) out.old (Some tt) t.new store out.new }
@@ -127,20 +166,29 @@ fn lengthen(t: &mut Slots, k: usize, n: u32, out: &mut Room)
         t.records[k].length = n;
         out.word(b"ok");
     } else {
-        out.refused(u8::from(Refusal::NoSlot));
+        out.refused(Refusal::NoSlot);
     }
 }
 
-// `damage K LENGTH`
-fn damage(t: &mut Slots, s: &[u8], out: &mut Room) -> Option<()>
-    ensures { (store : List ℕ) → Turns (damaging s.now t.old store) out.old result t.new store out.new }
+// What is asked for done, and answered.
+fn serve(asked: Asked, t: &mut Slots, store: &mut [u8], out: &mut Room) -> Option<()>
+    ensures { Turns (done_by (wanted_of asked) t.old store.old) out.old result t.new store.new out.new }
 {
-    let k = line::number(s, line::behind(6), 8);
-    let n = line::number(s, k, 8);
-    if !line::is_end(s, n) {
-        return None;
+    match asked {
+        Asked::Subscribe {
+            filter,
+            timeout,
+            behaviour,
+            time,
+        } => out.granted(
+            b"slot",
+            t.subscribe(store, filter, timeout, behaviour, time),
+        ),
+        Asked::Unsubscribe(k) => out.done(b"freed", t.unsubscribe(store, k)),
+        Asked::TimeCheck { time } => out.granted(b"marked", t.time_check(store, time)),
+        Asked::Lend { slots, octets } => return allot(t, slots, octets, store, out),
+        Asked::Damage { slot, length } => lengthen(t, slot, length, out),
     }
-    lengthen(t, line::word(k) as usize, line::word(n), out);
     Some(())
 }
 
@@ -156,51 +204,19 @@ fn pd(
     ensures turns { Turns (calling (pd_call local s.now) t.old store.old) out.old result t.new store.new out.new }
     ensures counts { statistics.new ≡ counting (pd_call local s.now) t.old store.old statistics.old }
 {
-    let sender = line::number(s, line::behind(2), 8);
-    let destination = line::number(s, sender, 8);
-    let time = line::number(s, destination, 16);
+    let mut fields = Fields::behind(s, 2);
+    let [sender, destination] = fields.words::<2>()?;
+    let time = fields.number(16)?;
     let mut data = line::buffer();
-    let d = line::octets(s, time, &mut data);
-    if d.is_bad {
-        return None;
-    }
+    let n = fields.last(&mut data)?;
     let a = Arrival {
-        sender: line::word(sender),
-        destination: line::word(destination),
-        time: time.value,
+        sender,
+        destination,
+        time,
         local,
     };
-    let delivered = t.receive(store, statistics, a, &data[..d.count]);
-    scenario_pd_words::put_done(out, b"delivered", delivered);
+    out.granted(b"delivered", t.receive(store, statistics, a, &data[..n]));
     Some(())
-}
-
-// A line that makes no call answered.
-fn own(t: &mut Slots, store: &[u8], s: &[u8], out: &mut Room) -> Option<()>
-    ensures { Turns (own_effect s.now t.old store.now) out.old result t.new store.now out.new }
-{
-    if line::is_verb(s, b"lend") {
-        lend(t, store, s, out)
-    } else if line::is_verb(s, b"damage") {
-        damage(t, s, out)
-    } else {
-        scenario_pd_look::answer(t, store, s, out)
-    }
-}
-
-// The same, or one whose call brings no telegram.
-fn other(t: &mut Slots, store: &mut [u8], s: &[u8], out: &mut Room) -> Option<()>
-    ensures { Turns (other_effect s.now t.old store.old) out.old result t.new store.new out.new }
-{
-    if line::is_verb(s, b"sub") {
-        sub(t, store, s, out)
-    } else if line::is_verb(s, b"unsub") {
-        unsub(t, store, s, out)
-    } else if line::is_verb(s, b"check") {
-        check(t, store, s, out)
-    } else {
-        own(t, store, s, out)
-    }
 }
 
 // A line of one of these verbs answered.
@@ -217,7 +233,9 @@ pub fn answer(
 {
     if line::is_verb(s, b"pd") {
         pd(t, statistics, local, store, s, out)
+    } else if let Some(asked) = parse(s) {
+        serve(asked, t, store, out)
     } else {
-        other(t, store, s, out)
+        scenario_pd_look::answer(t, store, s, out)
     }
 }

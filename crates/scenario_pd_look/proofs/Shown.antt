@@ -16,8 +16,8 @@ use Rattle.lent.specs.Lent.{lent_of}
 use Rattle.scenario_pd_words.specs.Words.{answer_words, state_words}
 
 -- what is lent
-pub lends : (t : Slots) (store : List ℕ) (n m : ℕ) → n ≡ min t.lent (length t.records) → m ≡ min t.octets (length store)
-    → record { records = take n t.records; store = take m store } ≡ lent_of t store
+pub lends : (t : Slots) (store : List ℕ) (n m : ℕ) → n ≡ min t.lent (length t.records)
+    → m ≡ min t.octets (length store) → record { records = take n t.records; store = take m store } ≡ lent_of t store
 lends t store n m e f =
     ap₂ (λ (x : List Subscription) (y : List ℕ). record { records = x; store = y })
     (ap (λ (j : ℕ). take j t.records) e ∙ take_min t.lent t.records)

@@ -2,20 +2,22 @@
 // Each fills the room with its answer; nothing where the line is none of its own.
 #![tactic(auto)]
 
+ghost use Rattle.std.specs.Prelude.{◌≡◌, List, ℕ};
 ghost use Rattle.answer.specs.Lent.{Fills};
 ghost use Rattle.subscription_table.specs.Table as table;
 ghost use Rattle.lent.specs.Lent.{lent_of};
 ghost use Rattle.answer.specs.Said.{Answered};
 ghost use Rattle.scenario_pd_words.specs.Words.{answer_words};
-ghost use Rattle.scenario_pd_look.specs.Look.{read_answer, slot_answer, slot_words};
-ghost use Rattle.scenario_pd_look.specs.Look.{part_words, part_answer, look_answer};
+ghost use Rattle.scenario_pd_look.specs.Look.{read_answer, slot_words, part_words, with_slot, said_of, look_answer};
 
 use answer::Room;
 use lent::Slots;
+use line::reader::Fields;
 use refusal::Refusal;
 use subscription::Subscription;
 
 // What reading slot k shows.
+// The room, the records and the octets beside them have three owners: a struct of them would be taken apart at once.
 fn put_read(out: &mut Room, t: &Slots, store: &[u8], k: usize, substitute: &[u8])
     ensures { Fills (answer_words (table.step (table.read k substitute.now) (lent_of t.now store.now)).answer)
         out.old out.new }
@@ -28,7 +30,7 @@ fn put_read(out: &mut Room, t: &Slots, store: &[u8], k: usize, substitute: &[u8]
             scenario_pd_words::put_state(out, v.state);
             out.octets(subscriptions::show(slots, store, k, substitute));
         }
-        Err(r) => out.refused(u8::from(r)),
+        Err(r) => out.refused(r),
     }
 }
 
@@ -36,13 +38,11 @@ fn put_read(out: &mut Room, t: &Slots, store: &[u8], k: usize, substitute: &[u8]
 fn read(t: &Slots, store: &[u8], s: &[u8], out: &mut Room) -> Option<()>
     ensures { Answered (read_answer t.now store.now s.now) out.old result out.new }
 {
-    let k = line::number(s, line::behind(4), 8);
+    let mut fields = Fields::behind(s, 4);
+    let k = fields.word()?;
     let mut data = line::buffer();
-    let d = line::octets(s, k, &mut data);
-    if d.is_bad {
-        return None;
-    }
-    put_read(out, t, store, line::word(k) as usize, &data[..d.count]);
+    let n = fields.last(&mut data)?;
+    put_read(out, t, store, k as usize, &data[..n]);
     Some(())
 }
 
@@ -53,20 +53,8 @@ fn put_slot(out: &mut Room, t: &Slots, k: usize)
     if k < 32 {
         scenario_pd_words::put_record(out, &t.records[k]);
     } else {
-        out.refused(u8::from(Refusal::NoSlot));
+        out.refused(Refusal::NoSlot);
     }
-}
-
-// `slot K`
-fn slot(t: &Slots, s: &[u8], out: &mut Room) -> Option<()>
-    ensures { Answered (slot_answer t.now s.now) out.old result out.new }
-{
-    let k = line::number(s, line::behind(4), 8);
-    if !line::is_end(s, k) {
-        return None;
-    }
-    put_slot(out, t, line::word(k) as usize);
-    Some(())
 }
 
 // The frame check of slot k's 1432 stored octets; refusal 10 where there is no such slot.
@@ -78,20 +66,18 @@ fn put_part(out: &mut Room, store: &[u8], k: usize)
         out.word(b"part");
         out.number(fcs::frame_check(&store[from..from + 1432]));
     } else {
-        out.refused(u8::from(Refusal::NoSlot));
+        out.refused(Refusal::NoSlot);
     }
 }
 
-// `part K`
-fn part(store: &[u8], s: &[u8], out: &mut Room) -> Option<()>
-    ensures { Answered (part_answer store.now s.now) out.old result out.new }
+// A slot's number alone, behind a verb of 4 letters: `slot K`, `part K`.
+fn slot_number(s: &[u8]) -> Option<usize>
+    ensures { (said : ℕ → List (List ℕ)) → with_slot s.now said ≡ said_of result said }
 {
-    let k = line::number(s, line::behind(4), 8);
-    if !line::is_end(s, k) {
-        return None;
-    }
-    put_part(out, store, line::word(k) as usize);
-    Some(())
+    let mut fields = Fields::behind(s, 4);
+    let k = fields.word()?;
+    fields.end()?;
+    Some(k as usize)
 }
 
 // A line of one of these verbs answered.
@@ -102,9 +88,11 @@ pub fn answer(t: &Slots, store: &[u8], s: &[u8], out: &mut Room) -> Option<()>
     if line::is_verb(s, b"read") {
         read(t, store, s, out)
     } else if line::is_verb(s, b"slot") {
-        slot(t, s, out)
+        put_slot(out, t, slot_number(s)?);
+        Some(())
     } else if line::is_verb(s, b"part") {
-        part(store, s, out)
+        put_part(out, store, slot_number(s)?);
+        Some(())
     } else {
         None
     }

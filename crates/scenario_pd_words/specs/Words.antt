@@ -1,6 +1,5 @@
 -- What the calls over subscriptions answer, in words.
-use Rattle.std.specs.Prelude.{cond, List, ◌++◌, ℕ, Ok, Err, Result}
-use Rattle.refusal.specs.declared.Refusal.{Refusal}
+use Rattle.std.specs.Prelude.{cond, List, ◌++◌, ℕ}
 use Rattle.refusal.specs.Refusal.{number as number_of}
 use Rattle.answer.specs.Answer.{ascii, word, word_of, decimal, number, octets, refused as refused_words}
 use Rattle.subscription.specs.declared.State.{State}
@@ -24,11 +23,6 @@ answer_words (delivered n) = word_of (ascii "delivered") n
 answer_words (marked n) = word_of (ascii "marked") n
 answer_words (shows state o) = state_words state ++ octets o
 answer_words (refused r) = refused_words (number_of r)
-
--- what a call did and its number, or `refused R`
-abbrev pub done_words : List ℕ → Result ℕ Refusal → List (List ℕ)
-done_words done (Ok n) = word_of done n
-done_words done (Err r) = refused_words (number_of r)
 
 -- COMID START END DEST TIMEOUT BEHAVIOUR, the last of one digit (0, 1 or 2)
 abbrev pub granted_words : Subscription → List (List ℕ)

@@ -2,34 +2,10 @@
 #![tactic(auto)]
 
 ghost use Rattle.answer.specs.Lent.{Fills};
-ghost use Rattle.subscription_table.specs.Table.{freed};
-ghost use Rattle.subscription_decisions.specs.Calls.{told};
-ghost use Rattle.scenario_pd_words.specs.Words.{answer_words, done_words, state_words};
-ghost use Rattle.scenario_pd_words.specs.Words.{granted_words, last_words, record_words};
+ghost use Rattle.scenario_pd_words.specs.Words.{state_words, granted_words, last_words, record_words};
 
 use answer::Room;
-use refusal::Refusal;
 use subscription::{LastTaken, State, Subscription};
-
-// What a call did and its number, or the refusal.
-pub fn put_done(out: &mut Room, done: &[u8], answer: Result<usize, Refusal>)
-    ensures { Fills (done_words done.now answer) out.old out.new }
-{
-    match answer {
-        Ok(n) => out.word_of(done, n),
-        Err(r) => out.refused(u8::from(r)),
-    }
-}
-
-// A slot is freed, or the refusal.
-pub fn put_freed(out: &mut Room, answer: Result<(), Refusal>)
-    ensures { Fills (answer_words (told (λ _. freed) answer)) out.old out.new }
-{
-    match answer {
-        Ok(()) => out.word(b"freed"),
-        Err(r) => out.refused(u8::from(r)),
-    }
-}
 
 // Whether a slot is valid, timed out, or never received.
 pub fn put_state(out: &mut Room, state: State)

@@ -1,15 +1,15 @@
 -- The calls over one publication: what a line says, the words of its answer, and the publication after it.
-use Rattle.std.specs.Prelude.{ℕ, ◌≡◌, List, cond, length, Option as Maybe, None, Some}
+use Rattle.std.specs.Prelude.{ℕ, ◌≡◌, List, cond, length, drop, Option as Maybe, None, Some}
 use Rattle.std.proofs.Math.Option.{Option, none, some}
 use Rattle.refusal.specs.Refusal.{first_of, after}
 use Rattle.pd.specs.Pd.{frame_of}
 use Rattle.publication.specs.declared.Publication.{Publication}
 use Rattle.publication.specs.Publication.{made_of, send_checks, sent_at}
-use Rattle.line.specs.Line.{read_to, verb_is, with_number, with_octets, with_end, eight, four, target_of}
+use Rattle.line.specs.Line.{verb_is, with_number, with_octets, with_end, eight, four, target_of}
 use Rattle.answer.specs.Answer.{ascii, word}
 use Rattle.answer.specs.declared.Room.{Room}
 use Rattle.answer.specs.Said.{Answered}
-use Rattle.scenario_wire.specs.Wire.{pd_fields, wrote_words}
+use Rattle.scenario_wire.specs.Wire.{with_found, pd_fields, wrote_words}
 
 -- the words of an answer, and the publication from then on
 pub record Said : Type 0 where
@@ -20,9 +20,9 @@ pub record Said : Type 0 where
 -- `ok`, and nothing sent yet
 unfoldable pub pub_said : List ℕ → Option Said
 pub_said s =
-    let f = pd_fields s (read_to 0 3) in
-    with_number s f.last 8
-    (λ cycle. with_end s cycle (record { words = word "ok"; held = Some (made_of f.header (eight cycle)) }))
+    with_found (pd_fields (drop 3 s) 0)
+    (λ header left. with_number left 8
+    (λ cycle left. with_end left (record { words = word "ok"; held = Some (made_of header (eight cycle)) })))
 
 -- a publication sent at a time into a target, refusal being the first of its checks that is given
 unfoldable pub sent_said : Publication → ℕ → List ℕ → List ℕ → Said
@@ -37,9 +37,9 @@ sent_said p time before d =
 unfoldable pub send_said : Maybe Publication → List ℕ → Option Said
 send_said None s = none
 send_said (Some p) s =
-    with_number s (read_to 0 4) 16
-    (λ time. with_number s time 4
-    (λ room. with_octets s room (sent_said p time.value (target_of (four room)))))
+    with_number (drop 4 s) 16
+    (λ time left. with_number left 4
+    (λ room left. with_octets left (sent_said p time (target_of (four room)))))
 
 -- a line of these verbs
 unfoldable pub publication_said : Maybe Publication → List ℕ → Option Said

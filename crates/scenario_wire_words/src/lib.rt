@@ -76,6 +76,6 @@ pub fn put_written(out: &mut Room, done: &[u8], written: Result<usize, Refusal>,
             out.word_of(done, n);
             out.octets(target);
         }
-        Err(r) => out.refused(u8::from(r)),
+        Err(r) => out.refused(r),
     }
 }

@@ -38,6 +38,7 @@ impl From<u16> for Kind {
 // Which requests and notifications a listener is for: a ComId, a range of senders, a destination URI (empty: any).
 #[derive(Clone, Copy)]
 pub struct Listener {
+    // A flag and no Option: the other fields stand in their octets, in use or not (`packed: listener_octets`).
     pub used: bool,
     pub com_id: u32,
     pub senders: SenderRange,
@@ -79,7 +80,7 @@ impl Listener {
             && (md::uri::is_empty(&self.uri) || md::uri::are_same(&self.uri, destination))
     }
 
-    // In use, with an equal filter.
+    // In use, with an equal filter. Three values: a URI that is sought has any length, so a `Listener` would ask more.
     pub fn holds(&self, com_id: u32, senders: SenderRange, uri: &[u8]) -> bool
         ensures { result ≡ holds com_id senders uri.now self.now }
     {
@@ -101,6 +102,7 @@ pub enum SessionState {
 }
 
 impl SessionState {
+    // The next three are alike: one function would need an enum that names the states without their timing.
     pub fn is_free(self) -> bool
         ensures { result ≡ is_free self }
     {
@@ -120,6 +122,7 @@ impl SessionState {
     }
 
     // 0 free, 1 waiting for reply, 2 owing a confirm, 3 with the user, 4 waiting for confirm.
+    // A number, for C (`trdp_session`) and the lent octets (`packed: session_octets`); no `From`: it drops the timing.
     pub fn number(self) -> u8
         ensures { result ≡ state_number self }
     {
@@ -132,7 +135,7 @@ impl SessionState {
         }
     }
 
-    // Start and timeout; zeros where it is free.
+    // Start and timeout; zeros where it is free. No field beside the state, since a free one has none (`free_session`).
     pub fn timing(self) -> Timing
         ensures { result ≡ timing_of self }
     {
@@ -155,7 +158,7 @@ impl SessionState {
         self.timing().is_up(time)
     }
 
-    // What a time check answers: 0 where the time is not up.
+    // What a time check answers: 0 where the time is not up. A number: C reads sixteen of them (`trdp_check_sessions`).
     pub fn code(self, time: u64) -> i32
         ensures { result ≡ code_of time self }
     {
@@ -171,6 +174,7 @@ impl SessionState {
 }
 
 // What an incoming telegram asks of a session: that it waits for a reply, or for a confirm.
+// It says which session is sought, and is no step to run; specs/ give its rule (`waits_of`).
 #[derive(Clone, Copy)]
 pub enum Waits {
     Reply,
@@ -214,7 +218,7 @@ impl Session {
         !self.state.is_free() && self.id == id
     }
 
-    // Of that identifier, and able to take this.
+    // Of that identifier, and able to take this: what is asked is a value, as `Waits` says.
     pub fn can_take(&self, id: [u8; 16], w: Waits) -> bool
         ensures { result ≡ can_take (waits_of w) id self.now }
     {
@@ -222,6 +226,8 @@ impl Session {
     }
 
     // The session after the user's reply: with Mp it ends, with Mq it waits for a confirm.
+    // The type is a number, as `trdp_reply` is given it: specs/ have a session after each, so a Kind would ask more.
+    // Timeout and time, and no `Timing`: the one is the user's and the other the call's, and after Mp both are dropped.
     pub fn answered(self, msg_type: u16, timeout: u32, time: u64) -> Session
         ensures { result ≡ answered msg_type timeout time self }
     {
@@ -238,7 +244,7 @@ impl Session {
     }
 }
 
-// The types that a user may reply with.
+// The types that a user may reply with; asked of any number, as `trdp_reply` is given one.
 pub fn is_reply(msg_type: u16) -> bool
     ensures { result ≡ is_reply msg_type }
 {

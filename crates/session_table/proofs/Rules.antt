@@ -14,7 +14,7 @@ use Rattle.session.specs.Session.{is_free, has}
 use Rattle.session.specs.declared.Session.{Session}
 use Rattle.session.specs.declared.SessionState.{SessionState}
 use Rattle.session_table.specs.Table.{Answer, refused_plain, opening}
-use Rattle.session_table.specs.Calls.{told, place_of, placed}
+use Rattle.session_table.specs.Calls.{told, place_of, placed, place_answer}
 
 module _ (given : ℕ → Answer) (full : Answer) (id : List ℕ) (state : SessionState) (xs : List Session) where
   abbrev new : Session
@@ -27,33 +27,26 @@ module _ (given : ℕ → Answer) (full : Answer) (id : List ℕ) (state : Sessi
   abbrev opened : Bool → Option ℕ → Outcome Answer (List Session)
   opened b o = grant (cond b (some (refused_plain SessionInUse)) none) o full given new xs
 
-  pub opening-leaves : (p : Result ℕ Refusal) → p ≡ place → (opening given full id state xs).after ≡ placed p new xs
+  abbrev outcome : Result ℕ Refusal → Outcome Answer (List Session)
+  outcome p = record { answer = place_answer given full p; after = placed p new xs }
+
+  pub opening-at : (p : Result ℕ Refusal) → p ≡ place → opening given full id state xs ≡ outcome p
   unfolding grant
-  opening-leaves p e =
-      go (any (has id) xs) (lowest (λ x. is_free x.state) xs) ∙ ap (λ (q : Result ℕ Refusal). placed q new xs) (sym e)
+  opening-at p e = go (any (has id) xs) (lowest (λ x. is_free x.state) xs) ∙ ap outcome (sym e)
     where
-      go : (b : Bool) (o : Option ℕ) → (opened b o).after ≡ placed (place_of b o) new xs
+      go : (b : Bool) (o : Option ℕ) → opened b o ≡ outcome (place_of b o)
       go true o = refl
       go false none = refl
       go false (some k) = refl
 
+  pub opening-leaves : (p : Result ℕ Refusal) → p ≡ place → (opening given full id state xs).after ≡ placed p new xs
+  opening-leaves p e = ap (λ (o : Outcome Answer (List Session)). o.after) (opening-at p e)
+
   pub opening-given : (k : ℕ) → Ok k ≡ place → (opening given full id state xs).answer ≡ given k
-  unfolding grant
-  opening-given k e = go (any (has id) xs) (lowest (λ x. is_free x.state) xs) e
-    where
-      go : (b : Bool) (o : Option ℕ) → Ok k ≡ place_of b o → (opened b o).answer ≡ given k
-      go true o e = cc
-      go false none e = cc
-      go false (some j) e = let z : j ≡ k = cc in ap given z
+  opening-given k e = ap (λ (o : Outcome Answer (List Session)). o.answer) (opening-at (Ok k) e)
 
   pub opening-full : Err NoFreeSession ≡ place → (opening given full id state xs).answer ≡ full
-  unfolding grant
-  opening-full e = go (any (has id) xs) (lowest (λ x. is_free x.state) xs) e
-    where
-      go : (b : Bool) (o : Option ℕ) → Err NoFreeSession ≡ place_of b o → (opened b o).answer ≡ full
-      go true o e = cc
-      go false none e = refl
-      go false (some j) e = cc
+  opening-full e = ap (λ (o : Outcome Answer (List Session)). o.answer) (opening-at (Err NoFreeSession) e)
 
   pub opening-in-use : (r : Refusal) → (r ≡ NoFreeSession → ⊥) → Err r ≡ place
       → (opening given full id state xs).answer ≡ refused_plain r

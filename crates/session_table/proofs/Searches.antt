@@ -7,7 +7,7 @@ use mathlib.Core.Option.{Option, none, some}
 use Prim.Native.Nat.{ℕ, zero, suc, ◌<◌, ◌≤◌}
 use native.Mathlib.Omega.{arith}
 use lib.ListN.{length, get_or}
-use Rattle.std.specs.Prelude.{Some, None, Ok, Err}
+use Rattle.std.specs.Prelude.{Some, None, Ok, Err, Result}
 use Rattle.std.specs.Option.{MatchOption, is_some, ok_or}
 use Rattle.std.specs.Prelude as code
 use Rattle.tables.specs.Lists.{any, lowest, next}
@@ -68,17 +68,20 @@ pub found_some : (o : Option ℕ) (k : ℕ) → found_of o ≡ Some k → o ≡ 
 found_some none k e = cc
 found_some (some j) k e = let z : j ≡ k = cc in ap some z
 
--- .. or refused for want of one
-module _ {E : Type 0} (o : Option ℕ) (n : E) where
-  pub refused-none : (e : E) → ok_or (found_of o) n ≡ Err e → (o ≡ none) × (e ≡ n)
-  refused-none e q = go o q
+-- .. or refused for want of one, by what a search and its `ok_or` promise
+module _ {E : Type 0} (o : Option ℕ) (n : E) {f : code.Option ℕ} {v : Result ℕ E} (d : f ≡ found_of o) (w : v ≡ ok_or f n) where
+  refused-as : v ≡ ok_or (found_of o) n
+  refused-as = w ∙ ap (λ (g : code.Option ℕ). ok_or g n) d
+
+  pub refused-none : (e : E) → v ≡ Err e → (o ≡ none) × (e ≡ n)
+  refused-none e q = go o (sym refused-as ∙ q)
     where
       go : (p : Option ℕ) → ok_or (found_of p) n ≡ Err e → (p ≡ none) × (e ≡ n)
       go none q = let z : e ≡ n = cc in (refl, z)
       go (some k) q = cc
 
-  pub granted-some : (k : ℕ) → ok_or (found_of o) n ≡ Ok k → o ≡ some k
-  granted-some k q = go o q
+  pub granted-some : (k : ℕ) → v ≡ Ok k → o ≡ some k
+  granted-some k q = go o (sym refused-as ∙ q)
     where
       go : (p : Option ℕ) → ok_or (found_of p) n ≡ Ok k → p ≡ some k
       go none q = cc

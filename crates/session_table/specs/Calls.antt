@@ -34,3 +34,9 @@ place_of false (some k) = Ok k
 abbrev pub placed : Result ℕ Refusal → Session → List Session → List Session
 placed (Ok k) x xs = set xs k x
 placed (Err r) x xs = xs
+
+-- what an opening answers: 17, what a full table answers, or the slot
+abbrev pub place_answer : (ℕ → table.Answer) → table.Answer → Result ℕ Refusal → table.Answer
+place_answer given full (Ok k) = given k
+place_answer given full (Err NoFreeSession) = full
+place_answer given full (Err r) = table.refused_plain r

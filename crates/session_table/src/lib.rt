@@ -20,6 +20,7 @@ pub enum Arrived {
 #[derive(Clone, Copy, Debug, PartialEq, Eq)]
 pub struct MdRefusal {
     pub refusal: Refusal,
+    // 0: none. A number, as document 01 has it in the Me, and as C reads it (`trdp_receive_md`).
     pub status: i32,
 }
 

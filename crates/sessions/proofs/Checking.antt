@@ -2,18 +2,15 @@
 -- Assumes nothing.
 use mathlib.Core.Path.{◌≡◌, refl, sym, ap, ap₂, ◌∙◌}
 use mathlib.Core.List.{List}
-use mathlib.Core.Bool.{true, false}
+use mathlib.Core.Bool.{true}
 use Prim.Native.Nat.{ℕ, ◌+◌, ◌<◌, ◌≤◌}
 use native.Mathlib.Numerals.{add-one}
 use native.Mathlib.Omega.{arith}
 use lib.IntN.{ℤ, pos}
 use lib.ListN.{length, get_or, set}
-use lib.Seq.{set-get_or}
 use Rattle.session.specs.Session.{free_session, is_up, expired, code_of}
 use Rattle.session.specs.declared.Listener.{Listener}
 use Rattle.session.specs.declared.Session.{Session}
-use Rattle.session.specs.declared.SessionState.{SessionState}
-use Rattle.session.specs.declared.SessionState.TheVariants.{Free, WaitingForReply, OwingConfirm, WithUser, WaitingForConfirm}
 use Rattle.session_table.specs.Table as table
 use Rattle.session_table.specs.Table.{Tables}
 use Rattle.packed.specs.Packed.{tables_of}
@@ -27,17 +24,6 @@ module _ (time k : ℕ) (o : List ℕ) where
   pub expires-up : (o' : List ℕ) (y : Session) → is_up time (get_or (tables_of o).sessions k free_session).state ≡ true
       → y ≡ free_session → PutsSession k y o o' → Expires time k o o'
   expires-up o' y e f p = record { writes = p.written ∙ rw (e, f) refl; means = p.means ∙ rw (e, f) refl }
-
-  pub expires-not : is_up time (get_or (tables_of o).sessions k free_session).state ≡ false → Expires time k o o
-  expires-not e = record { writes = rw e refl; means = rw (e, set-get_or (tables_of o).sessions k free_session) refl }
-
--- no code without a time that is up
-pub no-code : (time : ℕ) (s : SessionState) → is_up time s ≡ false → code_of time s ≡ pos 0
-no-code time Free e = refl
-no-code time (WaitingForReply t) e = rw e refl
-no-code time (OwingConfirm t) e = rw e refl
-no-code time (WithUser t) e = rw e refl
-no-code time (WaitingForConfirm t) e = rw e refl
 
 -- below i the sessions and codes are those after the check, from i on the sessions are as they were
 pub record Turned (time : ℕ) (o₀ : List ℕ) (codes₀ : List ℤ) (o : List ℕ) (codes : List ℤ) (i : ℕ) : Type 0 where

@@ -1,5 +1,6 @@
 // Message sessions: the user's calls and the time check, over the octets of listeners and sessions. Each looks at the
 // records that it needs, and writes the one that it changed.
+// The octets stand beside slot and time in each: a slot or a time is an argument of one call, and belongs to no octets.
 #![tactic(auto)]
 
 ghost use Rattle.std.specs.Prelude.{◌≡◌, get_or};
@@ -29,13 +30,13 @@ fn judge_listener(octets: &[u8; OCTETS], l: &Listener) -> Result<(), Refusal>
     if !md::uri::is_sound(&l.uri) {
         return Err(Refusal::Uri);
     }
-    if packed_slots::find_holding(octets, l).is_some() {
+    if packed_slots::find_holding(octets, l.com_id, l.senders, &l.uri).is_some() {
         return Err(Refusal::FilterInUse);
     }
     Ok(())
 }
 
-// Adds a listener: 11, 20, 12, 13; else the lowest free slot.
+// Adds a listener: 11, 20, 12, 13; else the lowest free slot. Three values, as `trdp_listen` is given them.
 pub fn listen(
     octets: &mut [u8; OCTETS],
     com_id: u32,
@@ -62,7 +63,7 @@ pub fn unlisten(octets: &mut [u8; OCTETS], k: usize) -> Result<(), Refusal>
     Ok(())
 }
 
-// Opens the session of a request: 17, 18; else its slot.
+// Opens the session of a request: 17, 18; else its slot. Timeout and time apart: the user's and the call's (`calling`).
 pub fn call(
     octets: &mut [u8; OCTETS],
     id: [u8; 16],
@@ -79,6 +80,7 @@ pub fn call(
 }
 
 // The user's reply to the session of a slot: 5, 10, 19.
+// Its type is a number, as `trdp_reply` is given it: others than Mp and Mq are refused. Timeout and time as `call`.
 pub fn reply(
     octets: &mut [u8; OCTETS],
     k: usize,
@@ -117,7 +119,7 @@ pub fn confirm(octets: &mut [u8; OCTETS], k: usize) -> Result<(), Refusal>
     Ok(())
 }
 
-// Session k's code; the session is freed where its time is up, else its octets stay.
+// Session k's code, a number (`SessionState::code`); the session is freed where its time is up, else its octets stay.
 fn expire(octets: &mut [u8; OCTETS], k: usize, time: u64) -> i32
     ensures code { result ≡ code_of time (get_or (tables_of octets.old).sessions k free_session).state }
     ensures expires { Expires time k octets.old octets.new }

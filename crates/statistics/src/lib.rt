@@ -24,6 +24,7 @@ pub struct Statistics {
 
 impl Counters {
     // One telegram more, with its outcome: 0 delivered, else the refusal number.
+    // A number, as `trdp_receive_md` has it: `counted` has a meaning for each, and a Refusal would ask more.
     pub fn count(&mut self, outcome: u8)
         ensures { self.new ≡ counted outcome self.old }
     {
@@ -50,7 +51,7 @@ impl Statistics {
         Self { pd: c, md: c }
     }
 
-    // An arriving telegram, with its outcome, is added to its family's counters.
+    // An arriving telegram, with its outcome, a number as in `count`, is added to its family's counters.
     pub fn record(&mut self, f: Family, outcome: u8)
         ensures { self.new ≡ added f outcome self.old }
     {

@@ -18,7 +18,7 @@ pub struct Filter {
     pub destination: u32,
 }
 
-// The sender and counter last taken. Held: 0 where nothing was taken since subscribing or since a timeout (a number for C).
+// The sender and counter last taken. Held: 0 where nothing was taken since subscribing or a timeout (a number for C).
 #[repr(C)]
 #[derive(Clone, Copy)]
 pub struct LastTaken {
@@ -28,7 +28,7 @@ pub struct LastTaken {
 }
 
 // A slot of the subscription table. Used: 0 free, any other in use. Behaviour: 0 zero, 1 keep, any other substitute.
-// State: 0 never received, 1 valid, any other timed out. Numbers, since hosts written in C lend records (trdp_receive_pd).
+// State: 0 never received, 1 valid, any other timed out. Numbers, since hosts in C lend records (`trdp_receive_pd`).
 #[repr(C)]
 #[derive(Clone, Copy)]
 pub struct Subscription {
@@ -136,6 +136,8 @@ impl Subscription {
     }
 
     // A record just granted: nothing received, supervision started.
+    // The behaviour is a number, as `trdp_subscribe` is given it: each has a meaning, and an enum would ask more.
+    // Four values, as `granted_record` has them: a struct of the asked three would be made for this call alone.
     pub fn granted(filter: Filter, timeout: u32, behaviour: u8, time: u64) -> Self
         ensures { result ≡ granted_record filter timeout behaviour time }
     {
@@ -207,7 +209,7 @@ impl Subscription {
         self.last = LastTaken::none();
     }
 
-    // What reading answers of the slot.
+    // What reading answers of the slot. The field stays a number: C lends the record, and any number has a meaning.
     pub fn state(&self) -> State
         ensures { result ≡ state_of self.now.state }
     {

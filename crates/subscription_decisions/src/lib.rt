@@ -26,11 +26,12 @@ pub struct Passed<'a> {
 #[derive(Clone, Copy, Debug, PartialEq, Eq)]
 pub struct View {
     pub state: State,
+    // Beside the length, which is told of a slot that shows the substitute set too (`read_by`).
     pub substitute: bool,
     pub length: u32,
 }
 
-// At most 32 slots, and 1432 octets for each; else 1.
+// At most 32 slots, and 1432 octets for each; else 1. By two numbers: slices would ask more of callers.
 #[tactic(auto, using(refusal::proofs::Tests::tests), unfolding(subscription_table::specs::Table::fits, subscription_table::specs::Slot::slot_octets))]
 pub fn judge_sizes(slots: usize, octets: usize) -> Result<(), Refusal>
     ensures { result ≡ first_of (size_checks slots octets) }
@@ -43,6 +44,7 @@ pub fn judge_sizes(slots: usize, octets: usize) -> Result<(), Refusal>
 }
 
 // A datagram that arrives: the first refusal of 2 to 7, or what the slots hear of it.
+// Beside its octets, in no struct with them: C gives the arrival by value and lends the octets (`trdp_receive_pd`).
 pub fn judge<'a>(a: Arrival, datagram: &'a [u8]) -> Result<Passed<'a>, Refusal>
     ensures { judged_as result ≡ judged a datagram.now }
 {
@@ -97,6 +99,7 @@ pub fn read_record(slots: usize, octets: usize, r: &Subscription) -> Result<View
 }
 
 // The octets that record r shows as slot k: the substitute set whole, or the first of its part; none where refused.
+// The number of slots and no slice, which would ask more of callers; slot, store and set as `subscription_step::show`.
 pub fn show_record<'a>(
     slots: usize,
     r: &Subscription,

@@ -7,8 +7,8 @@ ghost use Rattle.subscription_step.specs.Step.{concerns, one, Room, Steps, store
 
 use subscription::{Heard, Subscription};
 
-// How many slots a telegram matched, and how many took it or were marked. That both can grow by one more is asked of each
-// step (`Room`) and no invariant of the type: what is left shrinks from slot to slot.
+// How many slots a telegram matched, and how many took it or were marked. That both can grow by one more is asked of
+// each step (`Room`) and no invariant of the type: what is left shrinks from slot to slot.
 #[derive(Clone, Copy, Default)]
 pub struct Tally {
     pub matched: usize,
@@ -60,6 +60,7 @@ impl Event {
 }
 
 // A telegram at one slot: freshness is known before an octet is copied.
+// A struct of record, part and tally would need a clause that they are lent on, as `Lends` of `subscriptions::Table`.
 fn hear(h: &Heard, dataset: &[u8], r: &mut Subscription, part: &mut [u8], t: &mut Tally)
     requires room { Room 1 t.old }
     requires part_len { length part.old ≡ 1432 }
@@ -100,6 +101,7 @@ fn stored(store: &[u8], k: usize, n: u32) -> &[u8]
 }
 
 // What reading slot k shows: the substitute set whole, or the first stored-length octets of its part.
+// Slot, store and substitute set stand apart: each caller has them apart, and a struct would be made for this alone.
 pub fn show<'a>(r: &Subscription, k: usize, store: &'a [u8], substitute: &'a [u8]) -> &'a [u8]
     ensures { result.now ≡ shown_at r.now k store.now substitute.now }
 {

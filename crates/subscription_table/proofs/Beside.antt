@@ -7,45 +7,47 @@ use mathlib.Core.List.{List, [], ◌∷◌, map, append-nil}
 use mathlib.Core.Option.{Option, none, some}
 use Prim.Native.Nat.{ℕ, zero, suc, ◌*◌, ◌≤◌}
 use native.Mathlib.Nat.{zero-mul, suc-mul, add_comm}
-use lib.ListN.{length, set, replicate, length-set, length-map, length-replicate, replicate-append-replicate}
+use native.Mathlib.Omega.{arith}
+use lib.ListN.{length, get_or, set, replicate, length-set, length-map, length-replicate, replicate-append-replicate}
 use Rattle.refusal.specs.declared.Refusal.TheVariants as refusal
 use Rattle.subscription.specs.Record.{in_use, unsound}
 use Rattle.arrival.specs.declared.Arrival.{Arrival}
 use Rattle.subscription.specs.declared.Heard.{Heard}
 use Rattle.tables.specs.Lists.{any, lowest, grant, at_slot}
 use Rattle.tables.specs.Trace.{Outcome, trace}
-use Rattle.subscription_table.specs.Slot.{Judged, refusal, passed, judged, Cell, slot_octets, free_cell, wants, takes, deliver, due, mark}
-use Rattle.subscription_table.specs.Table.{Call, subscribe, unsubscribe, telegram, time_check, read, Answer, granted, refused, early, delivered_to, unsubscribed, reading, arriving, holds, slots, Table, lent, fits, step, empty_table}
+use Rattle.subscription_table.specs.Slot.{Judged, refusal, passed, judged, Cell, slot_octets, free_cell, wants, takes}
+use Rattle.subscription_table.specs.Slot.{deliver, due, mark}
+use Rattle.subscription_table.specs.Table.{Call, subscribe, unsubscribe, telegram, time_check, read, Answer, granted}
+use Rattle.subscription_table.specs.Table.{refused, early, delivered_to, unsubscribed, reading, arriving, holds, slots}
+use Rattle.subscription_table.specs.Table.{Table, lent, fits, step, empty_table}
 use Rattle.subscription_table.specs.Table as Rules
-use Rattle.subscription_table.specs.Alone.{arrived, checked, asked, Slot, free, held, only, joined, is_free, granted_same, reached, feed, changed, changes, arriving_beside, beside, refusing, side_by_side}
+use Rattle.subscription_table.specs.Alone.{arrived, checked, asked, Slot, free, held, only, joined, is_free}
+use Rattle.subscription_table.specs.Alone.{granted_same, reached, feed, changed, changes, arriving_beside, beside}
+use Rattle.subscription_table.specs.Alone.{refusing, side_by_side}
 use Rattle.subscription_table.specs.Demand3.{SideBySide}
 use Rattle.tables.proofs.Trace.{same-trace}
-use Rattle.tables.proofs.Lists.{mapped, any-map, count_map, lowest-map, map_each, grant-map, at_slot-map}
+use Rattle.tables.proofs.Lists.{mapped, any-each, count-each, lowest-each, map_each, grant-map, at_slot-at}
 use Rattle.subscription_table.proofs.Lent.{step-lent, fits-means}
 use Rattle.subscription_table.proofs.One.{after, cell_of, kept, sized, free-is, same-is, wants_is, only-is, only-answer}
 
 told : (met took : Bool) → changed (delivered_to (met || false) (cond took 1 0)) ≡ took
-told true true = refl
-told true false = refl
-told false true = refl
-told false false = refl
+told met took = grind arith
 
 told-mark : (b : Bool) → changed (Rules.marked (cond b 1 0)) ≡ b
-told-mark true = refl
-told-mark false = refl
+told-mark b = grind arith
 
 takes-is : (a : Arrival) (d : List ℕ) (h : Heard) (dataset : List ℕ) → judged a d ≡ passed h dataset → (s : Slot)
     → takes h (cell_of s) ≡ changes (arrived a d) s
 unfolding slots
-takes-is a d h dataset e s = rw (only-answer (telegram a d) s, e) (sym (told (wants h (cell_of s)) (takes h (cell_of s))))
+takes-is a d h dataset e s =
+    rw (only-answer (telegram a d) s, e) (sym (told (wants h (cell_of s)) (takes h (cell_of s))))
 
 due-is : (time : ℕ) (s : Slot) → due time (cell_of s) ≡ changes (checked time) s
 unfolding slots
 due-is time s = rw (only-answer (time_check time) s) (sym (told-mark (due time (cell_of s))))
 
 mark-is : (time : ℕ) (s : Slot) → mark time (cell_of s) ≡ cell_of (feed (checked time) s)
-mark-is time free = refl
-mark-is time (held q t fs) = refl
+mark-is time s = grind arith
 
 -- a telegram that the filter turns away leaves the slot as it was
 deliver-is : (a : Arrival) (d : List ℕ) (h : Heard) (dataset : List ℕ) → judged a d ≡ passed h dataset → (s : Slot)
@@ -65,8 +67,7 @@ unsubscribed-is free = rw (only-answer (unsubscribe 0) free) refl
 unsubscribed-is (held q time fs) = rw (only-answer (unsubscribe 0) (held q time fs), (kept q time fs).used) refl
 
 asked_is : (set : List ℕ) (s : Slot) → cell_of (feed (asked set) s) ≡ cell_of s
-asked_is set free = refl
-asked_is set (held q time fs) = refl
+asked_is set s = grind arith
 
 read_is : (set : List ℕ) (s : Slot)
     → ◌≡◌ {A = Outcome Answer Cell} (record { answer = reading set (cell_of s); after = cell_of s })
@@ -81,26 +82,35 @@ arriving-is : (a : Arrival) (d : List ℕ) (ss : List Slot) (j : Judged) → jud
 arriving-is a d ss (refusal n) e = refl
 arriving-is a d ss (passed h dataset) e =
     rw (
-      any-map cell_of (wants h) (reached h) (wants_is h) ss,
-      count_map cell_of (takes h) (changes (arrived a d)) (takes-is a d h dataset e) ss,
-      map_each cell_of (deliver h dataset) (λ s. cond (reached h s) (feed (arrived a d) s) s) (deliver-is a d h dataset e) ss,
+      any-each cell_of free (wants h) (reached h) ss (λ j. wants_is h (get_or ss j free)),
+      count-each cell_of free (takes h) (changes (arrived a d)) ss (λ j. takes-is a d h dataset e (get_or ss j free)),
+      map_each cell_of free (deliver h dataset) (λ s. cond (reached h s) (feed (arrived a d) s) s) ss
+          (λ j. deliver-is a d h dataset e (get_or ss j free)),
     ) refl
 
 slots-are : (c : Call) (ss : List Slot) → slots c (map cell_of ss) ≡ mapped cell_of (beside c ss)
 unfolding slots beside
 slots-are (subscribe q time) ss =
     rw (
-      any-map cell_of (holds q) (granted_same q) (same-is q) ss,
-      lowest-map cell_of (λ x. not (in_use x.slot)) is_free free-is ss,
+      any-each cell_of free (holds q) (granted_same q) ss (λ j. same-is q (get_or ss j free)),
+      lowest-each cell_of free (λ x. not (in_use x.slot)) is_free ss (λ j. free-is (get_or ss j free)),
     )
-    (grant-map cell_of (early (unsound q.filter) (any (granted_same q) ss)) (lowest is_free ss) (refused refusal.NoFreeSlot) granted (held q time []) ss)
+    (grant-map cell_of (early (unsound q.filter) (any (granted_same q) ss)) (lowest is_free ss)
+    (refused refusal.NoFreeSlot) granted (held q time []) ss)
 slots-are (unsubscribe k) ss =
-    at_slot-map cell_of free unsubscribed (λ s. record { answer = (step (unsubscribe 0) (only s)).answer; after = free }) k unsubscribed-is ss
+    at_slot-at cell_of free unsubscribed (λ s. record { answer = (step (unsubscribe 0) (only s)).answer; after = free })
+    k
+    ss (unsubscribed-is (get_or ss k free))
 slots-are (telegram a d) ss = arriving-is a d ss (judged a d) refl
 slots-are (time_check time) ss =
-    rw (count_map cell_of (due time) (changes (checked time)) (due-is time) ss, map_each cell_of (mark time) (feed (checked time)) (mark-is time) ss) refl
+    rw (
+      count-each cell_of free (due time) (changes (checked time)) ss (λ j. due-is time (get_or ss j free)),
+      map_each cell_of free (mark time) (feed (checked time)) ss (λ j. mark-is time (get_or ss j free)),
+    ) refl
 slots-are (read k set) ss =
-    at_slot-map cell_of free (λ x. record { answer = reading set x; after = x }) (λ s. record { answer = (step (read 0 set) (only s)).answer; after = feed (asked set) s }) k (read_is set) ss
+    at_slot-at cell_of free (λ x. record { answer = reading set x; after = x })
+    (λ s. record { answer = (step (read 0 set) (only s)).answer; after = feed (asked set) s }) k ss
+    (read_is set (get_or ss k free))
 
 -- ---- the whole list
 
@@ -126,7 +136,8 @@ length-arriving a d (passed h dataset) ss = length-map ss (λ s. cond (reached h
 
 pub length-beside : (c : Call) (ss : List Slot) → length (beside c ss).after ≡ length ss
 unfolding beside at_slot
-length-beside (subscribe q time) ss = length-grant (early (unsound q.filter) (any (granted_same q) ss)) (lowest is_free ss) (held q time []) ss
+length-beside (subscribe q time) ss =
+    length-grant (early (unsound q.filter) (any (granted_same q) ss)) (lowest is_free ss) (held q time []) ss
 length-beside (unsubscribe k) ss = length-set ss k free
 length-beside (telegram a d) ss = length-arriving a d (judged a d) ss
 length-beside (time_check time) ss = length-map ss (feed (checked time))
@@ -137,7 +148,13 @@ keeps c ss le = rw (length-beside c ss) le
 
 pub joined-empty : (n : ℕ) → joined (replicate n free) ≡ empty_table n (n * slot_octets)
 joined-empty zero = rw (zero-mul slot_octets) refl
-joined-empty (suc n) = rw (joined-empty n, replicate-append-replicate slot_octets (n * slot_octets) zero, suc-mul n slot_octets, add_comm slot_octets (n * slot_octets)) refl
+joined-empty (suc n) =
+    rw (
+      joined-empty n,
+      replicate-append-replicate slot_octets (n * slot_octets) zero,
+      suc-mul n slot_octets,
+      add_comm slot_octets (n * slot_octets),
+    ) refl
 
 -- where the table is refused, every call is
 abbrev pub Refused : Table → Type 0
@@ -156,5 +173,7 @@ table-is-side-by-side n octets cs = go (fits n octets) refl
         ≡ cond b (trace beside joined cs (replicate n free)) (trace refusing (λ t. t) cs (empty_table n octets))
     go true e =
         let m = fits-means n octets e in
-        rw (m.1, ← joined-empty n) (same-trace step beside joined (λ ss. length ss ≤ 32) keeps agrees cs (replicate n free) (rw (length-replicate n free) m.0))
-    go false e = same-trace step refusing (λ t. t) Refused (λ c t h. h) refuses cs (empty_table n octets) (simp length-replicate e)
+        rw (m.1, ← joined-empty n) (same-trace step beside joined (λ ss. length ss ≤ 32) keeps agrees cs
+        (replicate n free) (rw (length-replicate n free) m.0))
+    go false e = same-trace step refusing (λ t. t) Refused (λ c t h. h) refuses cs (empty_table n octets)
+        (simp length-replicate e)

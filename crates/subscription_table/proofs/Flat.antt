@@ -1,16 +1,15 @@
--- What the code sees: flat records and a flat store. Reading and storing slot k there, and a walk over all slots, in terms of the slots.
+-- What the code sees: flat records and a flat store. Reading and storing slot k there, in terms of the slots.
 -- ---- the slots of flat records and store, and back
 use mathlib.Core.Path.{◌≡◌, refl, sym, ap, ◌∙◌}
-use mathlib.Core.Bool.{Bool, true, false, cond}
-use mathlib.Core.List.{List, [], ◌∷◌, ◌++◌, map, append_assoc}
+use mathlib.Core.List.{List, [], ◌∷◌, ◌++◌, append_assoc}
 use Prim.Native.Nat.{ℕ, zero, suc, ◌*◌, ◌<◌}
 use native.Mathlib.Nat.{zero-mul, suc-mul, add_comm, not-suc-le-zero, le_of_suc-le-suc}
 use native.Mathlib.Omega.{arith}
 use lib.ListN.{length, take, drop, get_or, set, length-drop, take-append-drop}
-use lib.Seq.{take_at, drop_at, drop-drop, take-add, length-take-le}
+use lib.Seq.{drop-drop, take-add}
 use Rattle.subscription_table.specs.Slot.{Cell, slot_octets, free_cell}
 use Rattle.tables.specs.Trace.{Outcome}
-use Rattle.tables.specs.Lists.{count, at_slot}
+use Rattle.tables.specs.Lists.{at_slot}
 use Rattle.subscription_table.specs.Table.{Answer, parts, records, store, lent_after}
 use Rattle.subscription.specs.declared.Subscription.{Subscription}
 
@@ -23,10 +22,11 @@ records-parts (r ∷ rs) st = ap (λ l. r ∷ l) (records-parts rs (drop slot_oc
 shorter : (st : List ℕ) (n : ℕ) → length st ≡ suc n * slot_octets → length (drop slot_octets st) ≡ n * slot_octets
 shorter st n e = length-drop slot_octets st ∙ omega (arith, e, suc-mul n slot_octets)
 
-pub store-parts : (rs : List Subscription) (st : List ℕ) → length st ≡ length rs * slot_octets → store (parts rs st) ≡ st
+pub store-parts : (rs : List Subscription) (st : List ℕ) → length st ≡ length rs * slot_octets
+    → store (parts rs st) ≡ st
 unfolding parts
 store-parts [] [] e = refl
-store-parts [] (o ∷ st) e = let z : suc (length st) ≡ 0 = e ∙ zero-mul slot_octets in absurd (omega arith)
+store-parts [] (o ∷ st) e = grind arith
 store-parts (r ∷ rs) st e =
     ap (λ l. take slot_octets st ++ l) (store-parts rs (drop slot_octets st) (shorter st (length rs) e))
     ∙ take-append-drop slot_octets st
@@ -34,24 +34,32 @@ store-parts (r ∷ rs) st e =
 -- ---- slot k is read and stored in place
 
 pub parts_at : (rs : List Subscription) (st : List ℕ) (k : ℕ) → k < length rs
-    → get_or (parts rs st) k free_cell ≡ record { slot = get_or rs k free_cell.slot; octets = take slot_octets (drop (k * slot_octets) st) }
+    → get_or (parts rs st) k free_cell ≡ record {
+      slot = get_or rs k free_cell.slot;
+      octets = take slot_octets (drop (k * slot_octets) st);
+    }
 unfolding parts
 parts_at [] st k h = absurd (not-suc-le-zero h)
 parts_at (r ∷ rs) st zero h = rw (zero-mul slot_octets) refl
-parts_at (r ∷ rs) st (suc k) h = parts_at rs (drop slot_octets st) k (le_of_suc-le-suc h) ∙ rw (drop-drop (k * slot_octets) slot_octets st, suc-mul k slot_octets, add_comm slot_octets (k * slot_octets)) refl
+parts_at (r ∷ rs) st (suc k) h = parts_at rs (drop slot_octets st) k (le_of_suc-le-suc h) ∙ rw
+    (drop-drop (k * slot_octets) slot_octets st, suc-mul k slot_octets, add_comm slot_octets (k * slot_octets)) refl
 
 pub records-set : (xs : List Cell) (k : ℕ) (x : Cell) → records (set xs k x) ≡ set (records xs) k x.slot
 records-set [] k x = refl
 records-set (y ∷ xs) zero x = refl
 records-set (y ∷ xs) (suc k) x = ap (λ l. y.slot ∷ l) (records-set xs k x)
 
-front : (st : List ℕ) (k : ℕ) → take (suc k * slot_octets) st ≡ take slot_octets st ++ take (k * slot_octets) (drop slot_octets st)
-front st k = rw (suc-mul k slot_octets, add_comm (k * slot_octets) slot_octets) (take-add slot_octets (k * slot_octets) st)
+front : (st : List ℕ) (k : ℕ)
+    → take (suc k * slot_octets) st ≡ take slot_octets st ++ take (k * slot_octets) (drop slot_octets st)
+front st k =
+    rw (suc-mul k slot_octets, add_comm (k * slot_octets) slot_octets) (take-add slot_octets (k * slot_octets) st)
 
 back : (st : List ℕ) (k : ℕ) → drop (suc (suc k) * slot_octets) st ≡ drop (suc k * slot_octets) (drop slot_octets st)
-back st k = rw (suc-mul (suc k) slot_octets, add_comm (suc k * slot_octets) slot_octets) (sym (drop-drop (suc k * slot_octets) slot_octets st))
+back st k = rw (suc-mul (suc k) slot_octets, add_comm (suc k * slot_octets) slot_octets)
+    (sym (drop-drop (suc k * slot_octets) slot_octets st))
 
-pub store-set : (rs : List Subscription) (st : List ℕ) (k : ℕ) (x : Cell) → k < length rs → length st ≡ length rs * slot_octets
+pub store-set : (rs : List Subscription) (st : List ℕ) (k : ℕ) (x : Cell) → k < length rs
+    → length st ≡ length rs * slot_octets
     → store (set (parts rs st) k x) ≡ take (k * slot_octets) st ++ (x.octets ++ drop (suc k * slot_octets) st)
 unfolding parts
 store-set [] st k x h e = absurd (not-suc-le-zero h)
@@ -60,81 +68,29 @@ store-set (r ∷ rs) st zero x h e =
     rw (store-parts rs (drop slot_octets st) (shorter st (length rs) e), zero-mul slot_octets, one) refl
 store-set (r ∷ rs) st (suc k) x h e =
     rw (store-set rs (drop slot_octets st) k x (le_of_suc-le-suc h) (shorter st (length rs) e), front st k, back st k)
-    (sym (append_assoc (take slot_octets st) (take (k * slot_octets) (drop slot_octets st)) (x.octets ++ drop (suc k * slot_octets) (drop slot_octets st))))
-
--- the slots of a table in which slot k was stored in place: what a walk's step leaves
-pub parts-set : (rs : List Subscription) (st : List ℕ) (k : ℕ) (x : Cell) → k < length rs → length st ≡ length rs * slot_octets → length x.octets ≡ slot_octets
-    → parts (set rs k x.slot) (take (k * slot_octets) st ++ (x.octets ++ drop (suc k * slot_octets) st)) ≡ set (parts rs st) k x
-unfolding parts
-parts-set [] st k x h e l = absurd (not-suc-le-zero h)
-parts-set (r ∷ rs) st zero x h e l =
-    let one : 1 * slot_octets ≡ slot_octets = omega arith in
-    rw (zero-mul slot_octets, one, take_at x.octets (drop slot_octets st) slot_octets l, drop_at x.octets (drop slot_octets st) slot_octets l) refl
-parts-set (r ∷ rs) st (suc k) x h e l =
-    let long : length (take slot_octets st) ≡ slot_octets = length-take-le slot_octets st (omega (arith, e, suc-mul (length rs) slot_octets)) in
-    rw (
-      front st k,
-      back st k,
-      append_assoc,
-      take_at (take slot_octets st) (take (k * slot_octets) (drop slot_octets st) ++ (x.octets ++ drop (suc k * slot_octets) (drop slot_octets st))) slot_octets long,
-      drop_at (take slot_octets st) (take (k * slot_octets) (drop slot_octets st) ++ (x.octets ++ drop (suc k * slot_octets) (drop slot_octets st))) slot_octets long,
-    )
-    (ap (λ m. record { slot = r; octets = take slot_octets st } ∷ m) (parts-set rs (drop slot_octets st) k x (le_of_suc-le-suc h) (shorter st (length rs) e) l))
+    (sym (append_assoc (take slot_octets st) (take (k * slot_octets) (drop slot_octets st))
+    (x.octets ++ drop (suc k * slot_octets) (drop slot_octets st))))
 
 -- a call that names slot k, in the code's terms
-pub named_flat : (u : Cell → Outcome Answer Cell) (rs : List Subscription) (st : List ℕ) (k : ℕ) → k < length rs → length st ≡ length rs * slot_octets
+pub named_flat : (u : Cell → Outcome Answer Cell) (rs : List Subscription) (st : List ℕ) (k : ℕ) → k < length rs
+    → length st ≡ length rs * slot_octets
     → let o = u (record { slot = get_or rs k free_cell.slot; octets = take slot_octets (drop (k * slot_octets) st) }) in
     lent_after (at_slot free_cell u k (parts rs st))
     ≡ record {
       answer = o.answer;
-      after = record { records = set rs k o.after.slot; store = take (k * slot_octets) st ++ (o.after.octets ++ drop (suc k * slot_octets) st) };
+      after =
+          record {
+            records = set rs k o.after.slot;
+            store = take (k * slot_octets) st ++ (o.after.octets ++ drop (suc k * slot_octets) st);
+          };
     }
 unfolding at_slot
 named_flat u rs st k h e =
-    let x : Cell = record { slot = get_or rs k free_cell.slot; octets = take slot_octets (drop (k * slot_octets) st) } in
-    rw (parts_at rs st k h, records-set (parts rs st) k (u x).after, records-parts rs st, store-set rs st k (u x).after h e) refl
-
--- ---- a walk: the slots up to j have taken their step
-
-module _ {X : Type 0} (g : X → X) where
-  abbrev pub up_to : ℕ → List X → List X
-  up_to zero xs = xs
-  up_to (suc j) [] = []
-  up_to (suc j) (x ∷ xs) = g x ∷ up_to j xs
-
-  pub up_to-all : (xs : List X) → up_to (length xs) xs ≡ map g xs
-  up_to-all [] = refl
-  up_to-all (x ∷ xs) = ap (λ l. g x ∷ l) (up_to-all xs)
-
-  -- slot j is as it was until the walk comes to it
-  pub up_to-at : (j : ℕ) (xs : List X) (d : X) → get_or (up_to j xs) j d ≡ get_or xs j d
-  up_to-at zero xs d = refl
-  up_to-at (suc j) [] d = refl
-  up_to-at (suc j) (x ∷ xs) d = up_to-at j xs d
-
-  pub up_to-suc : (j : ℕ) (xs : List X) (d : X) → j < length xs → up_to (suc j) xs ≡ set (up_to j xs) j (g (get_or (up_to j xs) j d))
-  up_to-suc j [] d h = absurd (not-suc-le-zero h)
-  up_to-suc zero (x ∷ xs) d h = refl
-  up_to-suc (suc j) (x ∷ xs) d h = ap (λ l. g x ∷ l) (up_to-suc j xs d (le_of_suc-le-suc h))
-
-  -- and what a walk has counted
-  pub count-suc : (p : X → Bool) (j : ℕ) (xs : List X) (d : X) → j < length xs
-      → count p (take (suc j) xs) ≡ cond (p (get_or xs j d)) (suc (count p (take j xs))) (count p (take j xs))
-  count-suc p j [] d h = absurd (not-suc-le-zero h)
-  count-suc p zero (x ∷ xs) d h = refl
-  count-suc p (suc j) (x ∷ xs) d h = rw (count-suc p j xs d (le_of_suc-le-suc h)) (past (p x) (p (get_or xs j d)) (count p (take j xs)))
-    where
-      past : (a b : Bool) (n : ℕ) → cond a (suc (cond b (suc n) n)) (cond b (suc n) n) ≡ cond b (suc (cond a (suc n) n)) (cond a (suc n) n)
-      past true true n = refl
-      past true false n = refl
-      past false true n = refl
-      past false false n = refl
-
--- one step of a walk over the lent table: slot j is read, takes its step, and is stored in place
-pub walk_step : (g : Cell → Cell) (xs : List Cell) (rs : List Subscription) (st : List ℕ) (j : ℕ) → parts rs st ≡ up_to g j xs
-    → j < length rs → j < length xs → length st ≡ length rs * slot_octets
-    → let y = g (get_or (parts rs st) j free_cell) in
-    length y.octets ≡ slot_octets
-    → parts (set rs j y.slot) (take (j * slot_octets) st ++ (y.octets ++ drop (suc j * slot_octets) st)) ≡ up_to g (suc j) xs
-walk_step g xs rs st j e lt lt' long sized =
-    parts-set rs st j (g (get_or (parts rs st) j free_cell)) lt long sized ∙ rw e (sym (up_to-suc g j xs free_cell lt'))
+    let x : Cell =
+    record { slot = get_or rs k free_cell.slot; octets = take slot_octets (drop (k * slot_octets) st) } in
+    rw (
+      parts_at rs st k h,
+      records-set (parts rs st) k (u x).after,
+      records-parts rs st,
+      store-set rs st k (u x).after h e,
+    ) refl

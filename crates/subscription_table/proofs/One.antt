@@ -9,9 +9,11 @@ use lib.ListN.{length, replicate, length-append, length-drop, length-replicate}
 use Rattle.subscription.specs.declared.Heard.{Heard}
 use Rattle.subscription.specs.declared.Filter.{Filter}
 use Rattle.tables.specs.Lists.{at_slot}
-use Rattle.subscription_table.specs.Slot.{Judged, refusal, passed, judged, Request, Cell, slot_octets, free_cell, granted_cell, wants, takes, deliver, due, mark}
-use Rattle.subscription_table.specs.Table.{Call, arriving, holds, slots, lent, lent_after, step}
-use Rattle.subscription_table.specs.Alone.{Fed, arrived, checked, asked, own, Slot, free, held, alone, only, is_free, granted_same, reached}
+use Rattle.subscription_table.specs.Slot.{Judged, refusal, passed, judged, Request, Cell, slot_octets, free_cell}
+use Rattle.subscription_table.specs.Slot.{granted_cell, wants, takes, deliver, due, mark}
+use Rattle.subscription_table.specs.Table.{Call, holds, slots, lent, lent_after, step}
+use Rattle.subscription_table.specs.Alone.{Fed, arrived, checked, asked, own, Slot, free, held, alone, only, is_free}
+use Rattle.subscription_table.specs.Alone.{granted_same, reached}
 use Rattle.subscription.specs.Record.{in_use, zeroes}
 use Rattle.subscription_table.proofs.Lent.{step-lent}
 use Rattle.subscription_table.proofs.Fitting.{judged-fits}
@@ -41,10 +43,10 @@ pub record Kept (g : Filter) (x : Cell) : Type 0 where
   pub sized : length x.octets ≡ slot_octets
 
 kept-cond : {g : Filter} (b : Bool) {x y : Cell} → Kept g x → Kept g y → Kept g (cond b x y)
-kept-cond true k l = k
-kept-cond false k l = l
+kept-cond b k l = grind arith
 
-length-cleared : (b : Bool) (o : List ℕ) → length o ≡ slot_octets → length (cond b (replicate slot_octets 0) o) ≡ slot_octets
+length-cleared : (b : Bool) (o : List ℕ) → length o ≡ slot_octets
+    → length (cond b (replicate slot_octets 0) o) ≡ slot_octets
 length-cleared true o e = length-replicate slot_octets 0
 length-cleared false o e = e
 
@@ -55,9 +57,14 @@ kept_next {g} (arrived a d) x k = go (judged a d) refl
     go (refusal n) e = k
     go (passed h dataset) e =
         let le = judged-fits a d h dataset e in
-        kept-cond (takes h x) (record { used = k.used; filter = k.filter; sized = simp (length-append, length-drop, k.sized) (omega arith) }) k
+        kept-cond (takes h x) (record {
+          used = k.used;
+          filter = k.filter;
+          sized = simp (length-append, length-drop, k.sized) (omega arith);
+        }) k
 kept_next (checked time) x k =
-    kept-cond (due time x) (record { used = k.used; filter = k.filter; sized = length-cleared (zeroes x.slot) x.octets k.sized }) k
+    kept-cond (due time x)
+    (record { used = k.used; filter = k.filter; sized = length-cleared (zeroes x.slot) x.octets k.sized }) k
 kept_next (asked set) x k = k
 
 pub kept : (q : Request) (time : ℕ) (fs : List Fed) → Kept q.filter (after q time fs)
@@ -86,13 +93,7 @@ wants_is h (held q time fs) = rw ((kept q time fs).used, (kept q time fs).filter
 
 one-after : (f : Fed) (x : Cell) → (slots (own f) (x ∷ [])).after ≡ next_cell f x ∷ []
 unfolding slots at_slot
-one-after (arrived a d) x = go (judged a d)
-  where
-    go : (j : Judged) → (arriving j (x ∷ [])).after ≡ arrived_at j x ∷ []
-    go (refusal n) = refl
-    go (passed h dataset) = refl
-one-after (checked time) x = refl
-one-after (asked set) x = refl
+one-after f x = grind arith
 
 pub step-one : (c : Call) (s : Slot) → step c (lent (cell_of s ∷ [])) ≡ lent_after (slots c (cell_of s ∷ []))
 step-one c s = step-lent cell_of sized c (s ∷ []) (lit≤ tt)
@@ -102,7 +103,8 @@ unfolding alone
 only-is free = rw (append-nil free_cell.octets) refl
 only-is (held q time []) = refl
 only-is (held q time (f ∷ fs)) =
-    ap (λ t. (step (own f) t).after) (only-is (held q time fs)) ∙ ap (λ o. o.after) (step-one (own f) (held q time fs)) ∙ ap lent (one-after f (after q time fs))
+    ap (λ t. (step (own f) t).after) (only-is (held q time fs)) ∙ ap (λ o. o.after) (step-one (own f) (held q time fs))
+    ∙ ap lent (one-after f (after q time fs))
 
 pub only-answer : (c : Call) (s : Slot) → (step c (only s)).answer ≡ (slots c (cell_of s ∷ [])).answer
 only-answer c s = rw (only-is s, step-one c s) refl

@@ -7,7 +7,9 @@ use Rattle.std.specs.Prelude.{ℕ, zero, suc, Bool, true, false, cond, List, [],
 use Rattle.tables.specs.Lists.{count, any, lowest, grant, at_slot}
 use Rattle.tables.specs.Trace.{Outcome, trace}
 use Rattle.subscription_table.specs.Slot.{Judged, refusal, passed, judged, Request, slot_octets, granted_cell}
-use Rattle.subscription_table.specs.Table.{Call, subscribe, unsubscribe, telegram, time_check, read, Answer, granted, freed, delivered, marked, shows, refused, early, delivered_to, Table, lent, fits, step, empty_table}
+use Rattle.subscription_table.specs.Table.{Call, subscribe, unsubscribe, telegram, time_check, read, Answer, granted}
+use Rattle.subscription_table.specs.Table.{freed, delivered, marked, shows, refused, early, delivered_to, Table, lent}
+use Rattle.subscription_table.specs.Table.{fits, step, empty_table}
 
 -- what a slot alone is fed after its grant: a call, but for the slot's number
 pub data Fed : Type 0 where
@@ -39,7 +41,8 @@ only (held q time fs) = alone q time fs
 
 abbrev pub joined : List Slot → Table
 joined [] = empty_table 0 0
-joined (s ∷ ss) = record { records = (only s).records ++ (joined ss).records; store = (only s).store ++ (joined ss).store }
+joined (s ∷ ss) =
+    record { records = (only s).records ++ (joined ss).records; store = (only s).store ++ (joined ss).store }
 
 abbrev pub is_free : Slot → Bool
 is_free free = true
@@ -74,15 +77,22 @@ changes f s = changed (step (own f) (only s)).answer
 abbrev pub arriving_beside : Arrival → List ℕ → Judged → List Slot → Outcome Answer (List Slot)
 arriving_beside a d (refusal r) ss = record { answer = refused r; after = ss }
 arriving_beside a d (passed h dataset) ss =
-    record { answer = delivered_to (any (reached h) ss) (count (changes (arrived a d)) ss); after = map (λ s. cond (reached h s) (feed (arrived a d) s) s) ss }
+    record {
+      answer = delivered_to (any (reached h) ss) (count (changes (arrived a d)) ss);
+      after = map (λ s. cond (reached h s) (feed (arrived a d) s) s) ss;
+    }
 
 -- grants and numbers by the rules over the filters granted and not freed; all else by the slots alone
 unfoldable pub beside : Call → List Slot → Outcome Answer (List Slot)
-beside (subscribe q time) ss = grant (early (unsound q.filter) (any (granted_same q) ss)) (lowest is_free ss) (refused refusal.NoFreeSlot) granted (held q time []) ss
-beside (unsubscribe k) ss = at_slot free (λ s. record { answer = (step (unsubscribe 0) (only s)).answer; after = free }) k ss
+beside (subscribe q time) ss = grant (early (unsound q.filter) (any (granted_same q) ss)) (lowest is_free ss)
+    (refused refusal.NoFreeSlot) granted (held q time []) ss
+beside (unsubscribe k) ss =
+    at_slot free (λ s. record { answer = (step (unsubscribe 0) (only s)).answer; after = free }) k ss
 beside (telegram a d) ss = arriving_beside a d (judged a d) ss
-beside (time_check time) ss = record { answer = marked (count (changes (checked time)) ss); after = map (feed (checked time)) ss }
-beside (read k set) ss = at_slot free (λ s. record { answer = (step (read 0 set) (only s)).answer; after = feed (asked set) s }) k ss
+beside (time_check time) ss =
+    record { answer = marked (count (changes (checked time)) ss); after = map (feed (checked time)) ss }
+beside (read k set) ss =
+    at_slot free (λ s. record { answer = (step (read 0 set) (only s)).answer; after = feed (asked set) s }) k ss
 
 -- where the table is refused, so is every call
 abbrev pub refusing : Call → Table → Outcome Answer Table
@@ -90,4 +100,5 @@ refusing c t = record { answer = refused refusal.Sizes; after = t }
 
 -- the answers, records and store after each call that the slots alone give, side by side
 unfoldable pub side_by_side : ℕ → ℕ → List Call → List (Outcome Answer Table)
-side_by_side n octets cs = cond (fits n octets) (trace beside joined cs (replicate n free)) (trace refusing (λ t. t) cs (empty_table n octets))
+side_by_side n octets cs =
+    cond (fits n octets) (trace beside joined cs (replicate n free)) (trace refusing (λ t. t) cs (empty_table n octets))

@@ -1,4 +1,5 @@
--- Demand 3, as two statements over every list of calls from an empty table of any number of slots and a store of any size.
+-- Demand 3, as two statements over every list of calls from an empty table of any number of slots and a store of any
+-- size.
 use Rattle.std.specs.Prelude.{◌≡◌, ℕ, List}
 use Rattle.tables.specs.Trace.{trace, run}
 use Rattle.tables.specs.Watch.{watched, told, watched_alone}
@@ -9,7 +10,8 @@ use Rattle.subscription_table.specs.Watched.{slot_at, slot_watch}
 
 -- the answers, and the records and the store after each call, are those of slots alone, side by side
 abbrev pub SideBySide : Type 0
-SideBySide = (n octets : ℕ) (calls : List Call) → trace step (λ t. t) calls (empty_table n octets) ≡ side_by_side n octets calls
+SideBySide =
+    (n octets : ℕ) (calls : List Call) → trace step (λ t. t) calls (empty_table n octets) ≡ side_by_side n octets calls
 
 -- from its grant through the call that frees it, a slot's record, octets and answers are those of the slot alone
 abbrev pub OneSlot : Type 0

@@ -9,7 +9,8 @@ use Rattle.telegram.specs.declared.Family.TheVariants as family
 use Rattle.subscription.specs.declared.Filter.{Filter}
 use Rattle.subscription.specs.declared.Heard.{Heard}
 use Rattle.subscription.specs.declared.Subscription.{Subscription}
-use Rattle.subscription.specs.Record.{free_record, granted_record, record_wants, record_takes, record_taken, record_due, record_marked, zeroes, substitutes}
+use Rattle.subscription.specs.Record.{free_record, granted_record, record_wants, record_takes, record_taken, record_due}
+use Rattle.subscription.specs.Record.{record_marked, zeroes, substitutes}
 
 -- ---- a telegram, and what checks 2 to 7 make of it
 
@@ -61,7 +62,8 @@ free_cell = record { slot = free_record; octets = replicate slot_octets 0 }
 
 -- granted: store part zeroed, nothing received, supervision started
 abbrev pub granted_cell : Request → ℕ → Cell
-granted_cell q time = record { slot = granted_record q.filter q.timeout q.behaviour time; octets = replicate slot_octets 0 }
+granted_cell q time =
+    record { slot = granted_record q.filter q.timeout q.behaviour time; octets = replicate slot_octets 0 }
 
 abbrev pub wants : Heard → Cell → Bool
 wants h x = record_wants h x.slot

@@ -1,13 +1,16 @@
--- The table of subscriptions and its store, and what each call answers and leaves. Document 01, Subscriptions and Numbers.
+-- The table of subscriptions and its store, and what each call answers and leaves. Document 01, Subscriptions and
+-- Numbers.
 use Rattle.subscription.specs.Record.{in_use, equal, unsound, state_of}
 use Rattle.arrival.specs.declared.Arrival.{Arrival}
-use Rattle.std.specs.Prelude.{ℕ, zero, suc, ◌*◌, Bool, true, false, cond, not, ◌&&◌, List, [], ◌∷◌, ◌++◌, map, leb, eqb, length, take, drop, set, replicate}
+use Rattle.std.specs.Prelude.{ℕ, zero, suc, ◌*◌, Bool, true, false, cond, not, ◌&&◌, List, [], ◌∷◌, ◌++◌, map, leb, eqb}
+use Rattle.std.specs.Prelude.{length, take, drop, set, replicate}
 use Rattle.std.proofs.Math.Option.{Option, none, some}
 use Rattle.refusal.specs.declared.Refusal.{Refusal}
 use Rattle.refusal.specs.declared.Refusal.TheVariants as refusal
 use Rattle.tables.specs.Trace.{Outcome}
 use Rattle.tables.specs.Lists.{count, any, lowest, grant, at_slot}
-use Rattle.subscription_table.specs.Slot.{Judged, refusal, passed, judged, Request, Cell, slot_octets, free_cell, granted_cell, wants, takes, deliver, due, mark, shown, overlong}
+use Rattle.subscription_table.specs.Slot.{Judged, refusal, passed, judged, Request, Cell, slot_octets, free_cell}
+use Rattle.subscription_table.specs.Slot.{granted_cell, wants, takes, deliver, due, mark, shown, overlong}
 use Rattle.subscription.specs.declared.State.{State}
 use Rattle.subscription.specs.declared.Subscription.{Subscription}
 
@@ -42,7 +45,8 @@ delivered_to b (suc n) = delivered (suc n)
 
 abbrev pub unsubscribed : Cell → Outcome Answer Cell
 unsubscribed x =
-    cond (in_use x.slot) (record { answer = freed; after = free_cell }) (record { answer = refused refusal.NoSlot; after = x })
+    cond (in_use x.slot) (record { answer = freed; after = free_cell })
+    (record { answer = refused refusal.NoSlot; after = x })
 
 abbrev pub reading : List ℕ → Cell → Answer
 reading set x =

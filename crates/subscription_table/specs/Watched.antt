@@ -7,12 +7,17 @@ use Rattle.refusal.specs.Refusal.{number}
 use Rattle.refusal.specs.declared.Refusal.TheVariants as refusal
 use Rattle.tables.specs.Watch.{Watch}
 use Rattle.subscription_table.specs.Slot.{Judged, refusal, passed, judged, slot_octets, free_cell}
-use Rattle.subscription_table.specs.Table.{Call, subscribe, unsubscribe, telegram, time_check, read, Answer, granted, freed, delivered, marked, shows, refused, Table, step}
+use Rattle.subscription_table.specs.Table.{Call, subscribe, unsubscribe, telegram, time_check, read, Answer, granted}
+use Rattle.subscription_table.specs.Table.{freed, delivered, marked, shows, refused, Table, step}
 use Rattle.subscription.specs.declared.Filter.{Filter}
 
 -- slot k of a table: its record, and store octets 1432k to 1432k+1431
 abbrev pub slot_at : ℕ → Table → Table
-slot_at k t = record { records = get_or t.records k free_cell.slot ∷ []; store = take slot_octets (drop (k * slot_octets) t.store) }
+slot_at k t =
+    record {
+      records = get_or t.records k free_cell.slot ∷ [];
+      store = take slot_octets (drop (k * slot_octets) t.store);
+    }
 
 abbrev pub unused : Table → Bool
 unused t = not (in_use (get_or t.records 0 free_cell.slot))
@@ -48,4 +53,13 @@ abbrev pub heard : ℕ → Call → Answer → Option Answer
 heard k c a = cond (names k c) (some a) none
 
 abbrev pub slot_watch : ℕ → Filter → Watch Call Answer Table
-slot_watch k f = record { step = step; slot = slot_at k; free = unused; fed = fed k f; hears = heard k; hears_alone = heard k; gave1 = gave1 }
+slot_watch k f =
+    record {
+      step = step;
+      slot = slot_at k;
+      free = unused;
+      fed = fed k f;
+      hears = heard k;
+      hears_alone = heard k;
+      gave1 = gave1;
+    }

@@ -25,7 +25,7 @@ use subscription_step::{Event, Tally};
 use telegram::Family;
 
 // The records and the store that a caller lends: slot k owns store octets 1432k to 1432k+1431. Two slices, since hosts
-// lend two (trdp_receive_pd).
+// lend two (`trdp_receive_pd`). No type says that a method leaves the two references in place, so clauses do (`Lends`).
 #[derive(Drop)]
 pub struct Table<'a> {
     pub slots: &'a mut [Subscription],
@@ -40,28 +40,6 @@ impl<'a> Table<'a> {
         subscription_decisions::judge_sizes(self.slots.len(), self.store.len())
     }
 
-    // The event at slot k: its record, its part of the store, and the tally carried on.
-    fn step_at(&mut self, k: usize, event: &Event, dataset: &[u8], t: &mut Tally)
-        requires room { Room 1 t.old }
-        requires slot { k < length self.old.slots.now }
-        requires part { k * 1432 + 1432 ≤ length self.old.store.now }
-        ensures lends { Lends self.old self.new }
-        ensures slots { self.new.slots.now ≡ set self.old.slots.now k
-            (record_after event.now (length dataset.now) (get_or self.old.slots.now k free_record)) }
-        ensures store { self.new.store.now ≡ store_stepped event.now dataset.now
-            (get_or self.old.slots.now k free_record) k self.old.store.now }
-        ensures tally { t.new ≡ tallied event.now (length dataset.now)
-            (get_or self.old.slots.now k free_record) t.old }
-    {
-        let from = k * 1432;
-        event.step(
-            dataset,
-            &mut self.slots[k],
-            &mut self.store[from..from + 1432],
-            t,
-        );
-    }
-
     // A telegram that passed checks 2 to 7, or the clock, at every slot; one that it does not concern stays. Or 1.
     pub fn sweep(&mut self, event: &Event, dataset: &[u8]) -> Result<Tally, Refusal>
         ensures lends { Lends self.old self.new }
@@ -70,10 +48,13 @@ impl<'a> Table<'a> {
     {
         self.judge_sizes()?;
         let mut t = Tally::default();
-        // By number: of what `iter_mut` and `chunks_exact_mut` leave, a proof knows the length and no more.
-        for k in 0..self.slots.len() {
-            if event.is_concerning(&self.slots[k]) {
-                self.step_at(k, event, dataset, &mut t);
+        let slots = &mut *self.slots;
+        let store = &mut *self.store;
+        // The parts go by number: of what a zip with `chunks_exact_mut` leaves, no values are known.
+        for (k, r) in slots.iter_mut().enumerate() {
+            if event.is_concerning(r) {
+                let from = k * 1432;
+                event.step(dataset, r, &mut store[from..from + 1432], &mut t);
             }
         }
         Ok(t)
@@ -133,6 +114,7 @@ impl<'a> Table<'a> {
     }
 
     // Subscribing: the lowest free slot is granted and its part zeroed, or 1, 11, 12, 13.
+    // The values stand apart as in `Subscription::granted`; the behaviour is a number, since an enum would ask more.
     pub fn subscribe(
         &mut self,
         f: Filter,
@@ -201,13 +183,14 @@ fn count(s: &mut Statistics, answer: &Result<usize, Refusal>)
 }
 
 // The record of slot k; a number too large is read as a free slot.
+// Slots and k stand in three functions: to read, C lends a table shared (`trdp_read`), and so it makes no `Table`.
 pub fn slot_at(slots: &[Subscription], k: usize) -> Subscription
     ensures { result ≡ get_or slots.now k free_record }
 {
     slots.get(k).copied().unwrap_or(Subscription::free())
 }
 
-// Reading slot k: its state, and which octets it shows, or 1, 10. A function, since shared slices make no `Table`.
+// Reading slot k: its state, and which octets it shows, or 1, 10.
 pub fn read(slots: &[Subscription], store: &[u8], k: usize) -> Result<View, Refusal>
     ensures reads { Reads k slots.now store.now result }
     ensures exact { result ≡ read_by (fits (length slots.now) (length store.now)) (get_or slots.now k free_record) }

@@ -1,4 +1,5 @@
--- What the rules of every table are written with: counts and searches over its slots, granting the lowest free slot, a call that names a slot.
+-- What the rules of every table are written with: counts and searches over its slots, granting the lowest free slot, a
+-- call that names a slot.
 use Rattle.std.specs.Prelude.{ℕ, zero, suc, Bool, false, cond, ◌||◌, List, [], ◌∷◌, get_or, set}
 use Rattle.std.proofs.Math.Option.{Option, none, some}
 use Rattle.tables.specs.Trace.{Outcome}

@@ -1,10 +1,12 @@
--- A table that stands in a larger state beside others: some of the state's calls and answers are its own, and all other calls leave it as it is.
+-- A table that stands in a larger state beside others: some of the state's calls and answers are its own, and all other
+-- calls leave it as it is.
 use Rattle.std.specs.Prelude.{Bool, false}
 use Rattle.std.proofs.Math.Option.{Option, none, some}
 use Rattle.tables.specs.Trace.{Outcome}
 use Rattle.tables.specs.Watch.{Watch}
 
--- the table in the state, and the state with nothing beside it; its calls and answers as the state's, and which of the state's are its own
+-- the table in the state, and the state with nothing beside it; its calls and answers as the state's, and which of the
+-- state's are its own
 pub record View (C A T D B S : Type 0) : Type 0 where
   pub part : S → T
   pub whole : T → S

@@ -1,10 +1,12 @@
--- One slot of a table watched over a list of calls, from its grant through the call that frees it; and the slot alone, fed the calls that are not struck out.
+-- One slot of a table watched over a list of calls, from its grant through the call that frees it; and the slot alone,
+-- fed the calls that are not struck out.
 use Rattle.std.specs.Prelude.{Bool, cond, List, [], ◌∷◌}
 use Rattle.std.proofs.Math.Option.{Option, none, some}
 use Rattle.tables.specs.Trace.{Outcome}
 
--- a table's rules, and a slot of it: the slot alone, a table of one slot, and whether that is free; how it is fed a call (none: struck out); what it hears of an answer to
--- a call (none: the call does not name it), and of the slot alone's, its number kept; which answers are refusal 1
+-- a table's rules, and a slot of it: the slot alone, a table of one slot, and whether that is free; how it is fed a
+-- call (none: struck out); what it hears of an answer to a call (none: the call does not name it), and of the slot
+-- alone's, its number kept; which answers are refusal 1
 pub record Watch (C A T : Type 0) : Type 0 where
   pub step : C → T → Outcome A T
   pub slot : T → T

@@ -49,6 +49,11 @@ common_of d =
 abbrev pub differs : ℕ → List ℕ → Bool
 differs size d = not (eqb (crc32 (take (size - 4) d)) (little (part 4 (size - 4) d)))
 
+-- 4 and 5
+abbrev pub kind_checks : Family → Common → List Check
+kind_checks f c =
+    refusal.Version when not (eqb (c.protocol_version / 256) 1) ∷ refusal.MsgType when not (member c.msg_type (types f)) ∷ []
+
 -- 4, 5, and 6 as far as the header tells
 abbrev pub field_checks : Family → Common → List Check
 field_checks f c =

@@ -1,10 +1,11 @@
-// What PD and MD telegrams have in common: the first 24 octets, the checks 2 to 6, the writer's refusals, check field and padding.
+// What PD and MD telegrams have in common: the first 24 octets, the checks 2 to 6, the writer's refusals, check field
+// and padding.
 #![tactic(auto)]
 
 ghost use Rattle.std.specs.Prelude.{◌≡◌, ℕ, List, ◌+◌, ◌≤◌, eqb, length, take};
 ghost use Rattle.refusal.specs.Refusal.{first_of, answer};
 ghost use Rattle.octets.specs.Octets.{put};
-ghost use Rattle.telegram.specs.Telegram.{header_size, dataset_limit, types, member, padded, common_of, differs, field_checks, header_checks, checks, write_checks, common_octets, telegram_of};
+ghost use Rattle.telegram.specs.Telegram.{header_size, dataset_limit, types, member, padded, common_of, differs, kind_checks, field_checks, header_checks, checks, write_checks, common_octets, telegram_of};
 
 use octets::Number;
 use refusal::Refusal;
@@ -15,6 +16,7 @@ use refusal::Refusal;
 pub struct Common {
     pub sequence_counter: u32,
     pub protocol_version: u16,
+    // A number, since a header may say any and C holds them (`trdp_take_pd`, `trdp_write_pd`).
     pub msg_type: u16,
     pub com_id: u32,
     pub etb_topo_cnt: u32,
@@ -30,6 +32,7 @@ pub enum Family {
 }
 
 impl Family {
+    // The two sizes as two functions: each is a table of one line a family, and one that answers both is no shorter.
     pub fn header_size(self) -> usize
         ensures { result ≡ header_size self }
     {
@@ -48,7 +51,7 @@ impl Family {
         }
     }
 
-    // A message type is of the family: Pd, Pp; Mn, Mr, Mp, Mq, Mc, Me.
+    // A message type is of the family: Pd, Pp; Mn, Mr, Mp, Mq, Mc, Me. A number, since a header may say any.
     pub fn has_type(self, k: u16) -> bool
         ensures { result ≡ member k (types self) }
     {
@@ -99,7 +102,7 @@ impl Common {
     }
 }
 
-// The frame check differs.
+// The frame check differs. size stands beside d, since a datagram goes on behind its header.
 fn is_damaged(d: &[u8], size: usize) -> bool
     requires { (4 ≤ size) × (size ≤ length d.now) }
     ensures { result ≡ differs size d.now }
@@ -108,9 +111,9 @@ fn is_damaged(d: &[u8], size: usize) -> bool
     fcs::frame_check(&d[..at]) != u32::little(d, at)
 }
 
-// 4, 5, and 6 as far as the header tells.
-fn judge_fields(f: Family, c: Common) -> Result<(), Refusal>
-    ensures { result ≡ first_of (field_checks f c) }
+// 4 and 5. The family stands beside the fields in three functions: it is the caller's, and no field says it.
+fn judge_kind(f: Family, c: Common) -> Result<(), Refusal>
+    ensures { result ≡ first_of (kind_checks f c) }
 {
     if c.protocol_version / 256 != 1 {
         return Err(Refusal::Version);
@@ -118,6 +121,14 @@ fn judge_fields(f: Family, c: Common) -> Result<(), Refusal>
     if !f.has_type(c.msg_type) {
         return Err(Refusal::MsgType);
     }
+    Ok(())
+}
+
+// 4, 5, and 6 as far as the header tells.
+fn judge_fields(f: Family, c: Common) -> Result<(), Refusal>
+    ensures { result ≡ first_of (field_checks f c) }
+{
+    judge_kind(f, c)?;
     if f.dataset_limit() < c.dataset_length {
         return Err(Refusal::Length);
     }
@@ -158,6 +169,7 @@ pub fn judge_datagram(f: Family, d: &[u8]) -> Result<(), Refusal>
 }
 
 // 4, 5, 16, 20 and 15, of a telegram with a dataset of n octets.
+// sound_uris is what 20 asks, and no mark of a value: `write_checks` of specs/ takes it, and PD has no URI.
 pub fn judge_writing(
     f: Family,
     c: Common,
@@ -167,12 +179,7 @@ pub fn judge_writing(
 ) -> Result<(), Refusal>
     ensures { result ≡ first_of (write_checks f c n sound_uris room) }
 {
-    if c.protocol_version / 256 != 1 {
-        return Err(Refusal::Version);
-    }
-    if !f.has_type(c.msg_type) {
-        return Err(Refusal::MsgType);
-    }
+    judge_kind(f, c)?;
     if (f.dataset_limit() as usize) < n {
         return Err(Refusal::DatasetLong);
     }
@@ -186,6 +193,8 @@ pub fn judge_writing(
 }
 
 // Behind a header's first octets, up to its check field: check, dataset and padding written.
+// A place beside the target, and no part of it: what stands before the place is read, and what follows is written.
+// `fill` in `pd` and `md` asks both bounds too, each with its limit: they tie two arguments, which no type holds.
 pub fn finish(target: &mut [u8], at: usize, dataset: &[u8])
     requires dataset_len_bound { length dataset.now ≤ 65536 }
     requires dataset_in_bounds { at + 4 + padded (length dataset.now) ≤ length target.old }
@@ -217,6 +226,7 @@ pub trait Header: Copy {
         ensures { result ≡ header_of d.now };
 }
 
+// Beside `take`, since another check is asked here, and `H::header_of` follows that check in the contract.
 // A header taken apart, before its datagram is known to be whole: 2 to 5, and 6 as far as the header tells.
 pub fn take_header<H: Header>(d: &[u8]) -> Result<H, Refusal>
     ensures { result ≡ answer (first_of (header_checks H.family d.now)) (H.header_of d.now) }

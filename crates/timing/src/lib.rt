@@ -4,7 +4,7 @@
 ghost use Rattle.std.specs.Prelude.{◌≡◌};
 ghost use Rattle.timing.specs.Timing.{passed, time_up};
 
-// When supervision started, and the timeout (0: none).
+// When supervision started, and the timeout; 0 for none and no Option, since C lends it within its subscriptions.
 #[repr(C)]
 #[derive(Clone, Copy)]
 pub struct Timing {

@@ -1,54 +1,23 @@
--- What reading a slot answers, in terms of the table's rules.
+-- A slot that shows something is one of the table's.
 -- Assumes nothing.
-use Prim.Native.Nat.{ℕ, ◌*◌, ◌<◌, ◌≤◌}
+use Prim.Native.Nat.{ℕ, ◌<◌, ◌≤◌}
 use native.Mathlib.Omega.{arith}
-use mathlib.Core.Path.{◌≡◌, refl, ap, subst}
+use mathlib.Core.Path.{◌≡◌, refl}
 use mathlib.Core.List.{List}
-use mathlib.Core.Bool.{Bool, true, false, cond}
+use mathlib.Core.Bool.{Bool, true, false}
 use lib.Dec.{ltb}
 use lib.ListN.{length, get_or}
 use borrow.Author.Tests.{ltb-true}
 use Rattle.std.specs.Prelude.{IfOk, Ok, Err, Result}
-use Rattle.octets.specs.Octets.{part}
 use Rattle.refusal.specs.declared.Refusal.{Refusal}
-use Rattle.subscription.specs.Record.{free_record, state_of}
-use Rattle.subscription_table.specs.Slot.{slot_octets}
+use Rattle.subscription.specs.Record.{free_record}
 use Rattle.subscription_table.specs.Table.{fits}
-use Rattle.subscription.specs.declared.State.{State}
-use Rattle.subscription.specs.declared.State.TheVariants.{NeverReceived, Valid, TimedOut}
 use Rattle.subscription.specs.declared.Subscription.{Subscription}
 use Rattle.subscription_table.proofs.Lent.{fits-means}
-use Rattle.subscription_decisions.specs.Read.{read_by, shown}
+use Rattle.subscription_decisions.specs.Read.{read_by}
 use Rattle.subscription_decisions.specs.declared.View.{View}
-use Rattle.subscriptions.specs.Read.{Reads as TableReads}
 use Rattle.subscriptions.proofs.Viewing.{not_there}
-use Rattle.boundary.specs.Subscriptions.{state_number, of_reading}
-use Rattle.trdp.specs.Subscriptions.{Means, Reads}
 
-state-back : (x : State) → state_of (state_number x) ≡ x
-state-back NeverReceived = refl
-state-back Valid = refl
-state-back TimedOut = refl
-
--- what crosses means document 01's answer
-means : (k : ℕ) (set st : List ℕ) (x : Result View Refusal) → Means set st (of_reading k x) (shown k set st x)
-means k set st (Ok v) = (refl, state-back v.state, go v.substitute)
-  where
-    go : (b : Bool) → cond b set (part (cond b 0 v.length) (cond b 0 (k * slot_octets)) st)
-        ≡ cond b set (part v.length (k * slot_octets) st)
-    go true = refl
-    go false = refl
-means k set st (Err r) = refl
-
-pub reads : (k : ℕ) (rs : List Subscription) (st : List ℕ) (x : Result View Refusal) → TableReads k rs st x
-    → x ≡ read_by (fits (length rs) (length st)) (get_or rs k free_record) → Reads k rs st (of_reading k x)
-reads k rs st x t e =
-    record {
-      answers = λ set. subst (λ a. Means set st (of_reading k x) a) (t.answers set) (means k set st x);
-      exact = ap (of_reading k) e;
-    }
-
--- a slot that shows something is one of the table's
 pub slot-there : (k : ℕ) (rs : List Subscription) (st : List ℕ)
     → IfOk (read_by (fits (length rs) (length st)) (get_or rs k free_record)) (λ _. k < 32)
 slot-there k rs st = go (fits (length rs) (length st)) refl (ltb k (length rs)) refl

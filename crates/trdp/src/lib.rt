@@ -1,5 +1,5 @@
 // The calls of the stack for a host in C or Rust: every answer is a struct of numbers, whose refusal 0 means granted.
-// A table and its store are two arguments, and the two ways to convert are two calls, since C knows them so.
+// Arguments side by side, numbers for kinds, and two calls to convert are C's interface (include/trdp.h).
 #![tactic(auto)]
 
 ghost use Rattle.std.specs.Prelude.{◌≡◌, length};
@@ -97,8 +97,8 @@ pub extern "C" fn trdp_publish(h: PdHeader, cycle: u32) -> Publication
     Publication::new(h, cycle)
 }
 
-// A publication sent: written into the target, or refused with 14 or the writer's number, which leaves target and record
-// as they were.
+// A publication sent: written into the target, or refused with 14 or the writer's number, which leaves target and
+// record as they were.
 #[unsafe(no_mangle)]
 pub extern "C" fn trdp_send(
     mut p: Publication,

@@ -2,7 +2,8 @@
 use Rattle.std.proofs.Common.{refl, sym, ◌∙◌, le-leb}
 use borrow.Author.Tests.{lt-leb}
 use mathlib.Core.Bool.{or-true}
-use Rattle.dataset.proofs.description.Goals.{then-id-le16-via-then-id-le16, then-id-le16-via-else-id-le16+then-is_empty, then-id-le16-via-else-id-le16+else-is_empty+then-has_no_type}
+use Rattle.dataset.proofs.description.Goals.{then-id-le16-via-then-id-le16, then-id-le16-via-else-id-le16+then-is_empty}
+use Rattle.dataset.proofs.description.Goals.{then-id-le16-via-else-id-le16+else-is_empty+then-has_no_type}
 use Rattle.dataset.proofs.Descriptions.{headed-is}
 use Rattle.dataset.proofs.description.Goals as goal
 
@@ -14,7 +15,8 @@ returns-then-id-le16 c =
     m.ensures.front m.ensures.front_len in
     elim c.then-id-le16.branch [
       | then-id-le16-via-then-id-le16 w ↦ rw (h, le-leb _ 16 w.if-id-le16.true) refl
-      | then-id-le16-via-else-id-le16+then-is_empty w ↦ rw (h, sym w.is_empty.ensures ∙ w.if-is_empty.true, or-true) refl
+      | then-id-le16-via-else-id-le16+then-is_empty w ↦
+          rw (h, sym w.is_empty.ensures ∙ w.if-is_empty.true, or-true) refl
       | then-id-le16-via-else-id-le16+else-is_empty+then-has_no_type w ↦
           rw (h, sym w.has_no_type.ensures ∙ w.if-has_no_type.true, or-true) refl
     ]

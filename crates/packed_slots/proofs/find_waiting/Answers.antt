@@ -1,22 +1,12 @@
 -- The slots are asked one after the other.
-use mathlib.Core.Bool.{true, false}
 use borrow.Author.Rules.{rules}
 use borrow.Author.Tests.{tests}
-use Rattle.std.proofs.lemmas.Iterator.{first_from_Range}
-use Rattle.session_table.proofs.Searches.{Answers, first-found}
-use Rattle.session.specs.Session.{free_session, can_take, waits_of}
-use Rattle.packed.specs.Packed.{tables_of}
+use Rattle.session.specs.Session.{can_take, waits_of}
 use Rattle.packed_slots.proofs.Fields.{takes-free}
-use Rattle.packed_slots.proofs.Places.{sessions-long}
+use Rattle.packed_slots.proofs.Found.{session_found}
 use Rattle.packed_slots.proofs.find_waiting.Goals as goal
 
 pub returns : goal.returns
 returns c =
-    let o = c.args.octets.now in
-    let p = can_take (waits_of c.args.w) c.args.id in
-    let xs = (tables_of o).sessions in
-    first-found p free_session xs 16 _ (sessions-long o)
-    (first_from_Range _ _ _ _
-    (Answers p free_session xs 16 true) (Answers p free_session xs 16 false) c.find.ensures.ran
-    (λ x q k. search (rules, tests, takes-free))
-    (λ x q k. search (rules, tests, takes-free)))
+    session_found _ _ c.find.ensures.ran (can_take (waits_of c.args.w) c.args.id) c.args.octets.now
+    (λ x q k. search (rules, tests, takes-free), λ x q k. search (rules, tests, takes-free))

@@ -21,9 +21,7 @@ returns-in_err-k c =
     let a = c.args in
     let o = lowest (λ (x : Session). is_free x.state) (tables_of a.octets.now).sessions in
     let p = err_from_is_err_and c.from_residual.result c.from_residual.ensures.1 in
-    let s =
-    refused-none o NoFreeSession c.in_err-k.field-0.0
-    (rw (← c.find_free_session.ensures, ← c.ok_or.ensures.value) c.in_err-k.was) in
+    let s = refused-none o NoFreeSession c.find_free_session.ensures c.ok_or.ensures.value _ c.in_err-k.was in
     rw (p.1, p.2, s.1)
     (places-full a.id a.state a.octets.now
     (asked (has a.id) (tables_of a.octets.now).sessions _ _ _
@@ -34,9 +32,7 @@ pub returns : goal.returns
 returns c =
     let a = c.args in
     let o = lowest (λ (x : Session). is_free x.state) (tables_of a.octets.now).sessions in
-    let s =
-    granted-some o NoFreeSession c.in_ok-k.k
-    (rw (← c.find_free_session.ensures, ← c.ok_or.ensures.value) c.in_ok-k.was) in
+    let s = granted-some o NoFreeSession c.find_free_session.ensures c.ok_or.ensures.value _ c.in_ok-k.was in
     places-slot a.id a.state a.octets.now _ _
     (asked (has a.id) (tables_of a.octets.now).sessions _ _ _
     c.find_session.ensures c.is_some.ensures c.if-is_some.false)

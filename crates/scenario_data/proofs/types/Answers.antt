@@ -1,45 +1,46 @@
--- A bad line, octets that are no run, or a run.
-use Rattle.std.proofs.Common.{refl, sym, ap, ◌∙◌, take}
-use Rattle.line.proofs.Said.{unsaid, said-octets}
+-- A line of another form, octets that are no run, or a run.
+use Rattle.std.proofs.Common.{List, ℕ, refl, sym, ◌∙◌, take}
+use Rattle.line.proofs.Fields.{last_none, last_some}
 use Rattle.answer.proofs.Said.{answered_by}
-use Rattle.scenario_data.specs.Data.{run_said, or_none}
-use Rattle.scenario_data.proofs.Described.{types-is, types-bad, run-said, run-bad, describes_as, describes_none}
-use Rattle.scenario_data.proofs.types.Goals.{then-d-via-then-d, then-d-via-else-d+then-not-is_run}
+use Rattle.scenario_data.specs.Data.{types_said, run_said}
+use Rattle.scenario_data.proofs.Described.{run_is_said, run_is_bad, describes_none}
 use Rattle.scenario_data.proofs.types.Goals as goal
 
-pub returns-then-d : goal.returns-then-d
-returns-then-d c =
-    let a = c.args in
-    let d = c.octets-d in
-    let run = a.run.now in
-    elim c.then-d.branch [
-      | then-d-via-then-d w ↦
-          describes_none
-          (types-bad run a.s.now c.behind.result c.behind.ensures
-          (unsaid a.s.now c.behind.result c.buffer-data.result d.result (run_said run) c.buffer-data.ensures.value
-          d.ensures.value w.if-d.true))
-          a.numbers.now run a.out.now
-      | then-d-via-else-d+then-not-is_run w ↦
-          describes_none
-          (types-is run a.s.now c.behind.result c.behind.ensures
-          ∙ ap or_none
-          (said-octets a.s.now c.behind.result c.buffer-data.result d.result (run_said run) d.new.target
-          c.buffer-data.ensures.value d.ensures.value w.if-d.false d.ensures.target_after)
-          ∙ run-bad run (take d.result.count d.new.target) d.result.count d.ensures.prefix_len.1
-          (sym w.is_run.ensures ∙ w.if-not-is_run.true))
-          a.numbers.now run a.out.now
-    ]
+pub returns-in_err-n : goal.returns-in_err-n
+unfolding types_said
+returns-in_err-n c =
+    let b = c.buffer-data in
+    describes_none c.from_residual.ensures
+    (rw (
+      ← c.behind.ensures,
+      last_none c.behind.result (run_said c.args.run.now) b.result b.ensures.value
+          c.in_err-n.ensures.value,
+    ))
+
+pub returns-then-not-is_run : goal.returns-then-not-is_run
+unfolding types_said
+returns-then-not-is_run c =
+    let run = c.args.run.now in
+    let b = c.buffer-data in
+    let d : List ℕ = take c.in_ok-n.n c.last.new.target in
+    describes_none refl
+    (rw (
+      ← c.behind.ensures,
+      last_some c.behind.result (run_said run) c.in_ok-n.n b.result c.last.new.target
+          b.ensures.value c.in_ok-n.ensures.value c.in_ok-n.ensures.target_after,
+    )
+    (run_is_bad run d c.in_ok-n.n c.in_ok-n.ensures.prefix_len.1 (sym c.is_run.ensures ∙ c.if-not-is_run.true)))
 
 pub returns : goal.returns
+unfolding types_said
 returns c =
-    let a = c.args in
-    let d = c.octets-d in
-    let run = a.run.now in
-    describes_as
-    (types-is run a.s.now c.behind.result c.behind.ensures
-    ∙ ap or_none
-    (said-octets a.s.now c.behind.result c.buffer-data.result d.result (run_said run) d.new.target
-    c.buffer-data.ensures.value d.ensures.value c.if-d.false d.ensures.target_after)
-    ∙ run-said run (take d.result.count d.new.target) d.result.count d.ensures.prefix_len.1
-    (sym c.is_run.ensures ∙ c.if-not-is_run.false))
+    let run = c.args.run.now in
+    let b = c.buffer-data in
+    let d : List ℕ = take c.in_ok-n.n c.last.new.target in
+    rw (
+      ← c.behind.ensures,
+      last_some c.behind.result (run_said run) c.in_ok-n.n b.result c.last.new.target
+          b.ensures.value c.in_ok-n.ensures.value c.in_ok-n.ensures.target_after,
+      run_is_said run d c.in_ok-n.n c.in_ok-n.ensures.prefix_len.1 (sym c.is_run.ensures ∙ c.if-not-is_run.false),
+    )
     (record { words = answered_by refl c.word.ensures; counted = refl; lent = c.fill.ensures })

@@ -1,34 +1,32 @@
--- The fields are read one after the other; the line ends behind the last, or it asks nothing.
-use mathlib.Core.Path.{◌≡◌, refl, sym, ◌∙◌}
-use mathlib.Core.Bool.{true, false}
-use Rattle.answer.specs.Answer.{ascii}
-use Rattle.session_table.specs.Table.{confirmed}
-use Rattle.line.specs.Line.{read_to, ends}
-use Rattle.line.proofs.Fields.{ended, first-number, number_read, unended}
+-- The session's number, the time and the line's end.
+use mathlib.Core.Path.{refl, sym, ◌∙◌}
+use Rattle.line.proofs.Fields.{number_none, number_some, read_value, end_none, end_some}
 use Rattle.scenario_md.specs.Lines.{confirm_asked}
-use Rattle.scenario_md.proofs.Served.{asks, done, served, unserved, same-confirm}
+use Rattle.scenario_md.proofs.Read.{asks_nothing}
 use Rattle.scenario_md.proofs.confirm.Goals as goal
 
-pub returns-then-is_end : goal.returns-then-is_end
+pub returns-in_err-k : goal.returns-in_err-k
 unfolding confirm_asked
-returns-then-is_end c =
-    let s = c.args.s.now in
-    let f1 = c.number-k in
-    let f2 = c.number-time in
-    let e : ends s f2.result ≡ true = sym c.is_end.ensures ∙ c.if-is_end.true in
-    asks (served c.confirm-confirmed.ensures (done (ascii "confirmed") confirmed refl c.confirm-confirmed.result c.put_done.ensures) (λ x. refl) (λ x n. refl))
-    (first-number s c.behind.result (read_to 0 7) f1.result 8 _ c.behind.ensures f1.ensures
-    (number_read s f1.result f2.result 16 _ f2.ensures
-    (ended s f2.result _ e (same-confirm c.word.ensures))))
+returns-in_err-k c =
+    asks_nothing c.from_residual.ensures (number_none _ c.behind-fields.ensures c.in_err-k.ensures)
+
+pub returns-in_err-number : goal.returns-in_err-number
+unfolding confirm_asked
+returns-in_err-number c =
+    asks_nothing c.from_residual-in_err-number.ensures
+    (number_some _ c.behind-fields.ensures c.in_ok-k.ensures ∙ number_none _ refl c.in_err-number.ensures)
+
+pub returns-in_err-end : goal.returns-in_err-end
+unfolding confirm_asked
+returns-in_err-end c =
+    asks_nothing c.from_residual-in_err-end.ensures
+    (number_some _ c.behind-fields.ensures c.in_ok-k.ensures ∙ number_some _ refl c.in_ok-number.ensures
+    ∙ end_none _ _ c.in_err-end.ensures)
 
 pub returns : goal.returns
 unfolding confirm_asked
 returns c =
-    let s = c.args.s.now in
-    let f1 = c.number-k in
-    let f2 = c.number-time in
-    let e : ends s f2.result ≡ false = sym c.is_end.ensures ∙ c.if-is_end.false in
-    asks unserved
-    (first-number s c.behind.result (read_to 0 7) f1.result 8 _ c.behind.ensures f1.ensures
-    (number_read s f1.result f2.result 16 _ f2.ensures
-    (unended s f2.result _ e)))
+    rw (read_value c.in_ok-k.ensures)
+    (sym
+    (number_some _ c.behind-fields.ensures c.in_ok-k.ensures ∙ number_some _ refl c.in_ok-number.ensures
+    ∙ end_some _ _ c.in_ok-end.ensures))

@@ -1,42 +1,47 @@
--- The fields are read one after the other; the line ends behind the last, or it asks nothing.
-use mathlib.Core.Path.{◌≡◌, refl, sym, ◌∙◌}
-use mathlib.Core.Bool.{true, false}
-use Rattle.answer.specs.Answer.{ascii}
-use Rattle.session_table.specs.Table.{listening}
-use Rattle.line.specs.Line.{read_to, ends}
-use Rattle.line.proofs.Fields.{end_read, ended, first-number, number_read, octets-in, octets-read, unended}
-use Rattle.scenario_md.specs.Lines.{listen_asked}
-use Rattle.scenario_md.proofs.Served.{asks, given, served, unserved, same-listen}
+-- Three numbers, the URI and the line's end.
+use mathlib.Core.Path.{sym, ◌∙◌}
+use mathlib.Core.List.{List}
+use mathlib.Core.Option.{Option}
+use Prim.Native.Nat.{ℕ}
+use lib.ListN.{get_or}
+use Rattle.session_table.specs.Table.{listen}
+use Rattle.line.specs.Line.{with_field, with_end}
+use Rattle.line.proofs.Fields.{words_none, words_some, octets_none, octets_some, end_none, end_some}
+use Rattle.scenario_md.specs.Lines.{Asked, calls, listen_asked}
+use Rattle.scenario_md.proofs.Read.{asks_nothing}
 use Rattle.scenario_md.proofs.listen.Goals as goal
 
-pub returns-then-is_end : goal.returns-then-is_end
+-- what stands behind the numbers
+abbrev rest : List ℕ → List ℕ → Option Asked
+rest v s =
+    with_field s 32 (λ uri left.
+    with_end left (calls (listen (get_or v 0 0) (record { start = get_or v 1 0; end = get_or v 2 0 }) uri)))
+
+pub returns-in_err-com_id : goal.returns-in_err-com_id
 unfolding listen_asked
-returns-then-is_end c =
-    let s = c.args.s.now in
-    let f1 = c.number-com_id in
-    let f2 = c.number-start in
-    let f3 = c.number-end in
-    let f4 = c.octets_field-last in
-    let e : ends s f4.result ≡ true = sym c.is_end.ensures ∙ c.if-is_end.true in
-    asks (served c.listen-listening.ensures (given (ascii "listener") listening (λ k. refl) c.listen-listening.result c.put_granted.ensures) (λ x. refl) (λ x n. refl))
-    (first-number s c.behind.result (read_to 0 6) f1.result 8 _ c.behind.ensures f1.ensures
-    (number_read s f1.result f2.result 8 _ f2.ensures
-    (number_read s f2.result f3.result 8 _ f3.ensures
-    (octets-read s f3.result f4.result 32 _ f4.ensures.value
-    (ended s f4.result _ e (same-listen c.word-then-is_end-2.ensures c.word.ensures c.word-then-is_end.ensures (octets-in s f3.result f4.result 32 _ _ (end_read s f4.result e) f4.ensures.target_after)))))))
+returns-in_err-com_id c =
+    asks_nothing c.from_residual.ensures
+    (words_none 3 _ rest (rw c.behind-fields.ensures at c.in_err-com_id.ensures.words))
+
+pub returns-in_err-uri : goal.returns-in_err-uri
+unfolding listen_asked
+returns-in_err-uri c =
+    asks_nothing c.from_residual-in_err-uri.ensures
+    (words_some 3 _ _ rest (rw c.behind-fields.ensures at c.in_ok-com_id.ensures.words)
+    ∙ octets_none 32 _ (rw c.behind-fields.ensures at c.in_ok-com_id.ensures.rest) c.in_err-uri.ensures)
+
+pub returns-in_err-end : goal.returns-in_err-end
+unfolding listen_asked
+returns-in_err-end c =
+    asks_nothing c.from_residual-in_err-end.ensures
+    (words_some 3 _ _ rest (rw c.behind-fields.ensures at c.in_ok-com_id.ensures.words)
+    ∙ octets_some 32 _ (rw c.behind-fields.ensures at c.in_ok-com_id.ensures.rest) c.in_ok-uri.ensures
+    ∙ end_none _ _ c.in_err-end.ensures)
 
 pub returns : goal.returns
 unfolding listen_asked
 returns c =
-    let s = c.args.s.now in
-    let f1 = c.number-com_id in
-    let f2 = c.number-start in
-    let f3 = c.number-end in
-    let f4 = c.octets_field-last in
-    let e : ends s f4.result ≡ false = sym c.is_end.ensures ∙ c.if-is_end.false in
-    asks unserved
-    (first-number s c.behind.result (read_to 0 6) f1.result 8 _ c.behind.ensures f1.ensures
-    (number_read s f1.result f2.result 8 _ f2.ensures
-    (number_read s f2.result f3.result 8 _ f3.ensures
-    (octets-read s f3.result f4.result 32 _ f4.ensures.value
-    (unended s f4.result _ e)))))
+    sym
+    (words_some 3 _ _ rest (rw c.behind-fields.ensures at c.in_ok-com_id.ensures.words)
+    ∙ octets_some 32 _ (rw c.behind-fields.ensures at c.in_ok-com_id.ensures.rest) c.in_ok-uri.ensures
+    ∙ end_some _ _ c.in_ok-end.ensures)

@@ -1,28 +1,23 @@
--- The fields are read one after the other; the line ends behind the last, or it asks nothing.
-use mathlib.Core.Path.{◌≡◌, sym, ◌∙◌}
-use mathlib.Core.Bool.{true, false}
-use Rattle.line.specs.Line.{read_to, ends}
-use Rattle.line.proofs.Fields.{ended, first-number, unended}
+-- The session's number, and the line's end behind it.
+use mathlib.Core.Path.{sym, ◌∙◌}
+use Rattle.line.proofs.Fields.{number_none, number_some, read_value, end_none, end_some}
 use Rattle.scenario_md.specs.Lines.{session_asked}
-use Rattle.scenario_md.proofs.Served.{asks, shown, unserved, same-look}
+use Rattle.scenario_md.proofs.Read.{asks_nothing}
 use Rattle.scenario_md.proofs.session.Goals as goal
 
-pub returns-then-is_end : goal.returns-then-is_end
+pub returns-in_err-k : goal.returns-in_err-k
 unfolding session_asked
-returns-then-is_end c =
-    let s = c.args.s.now in
-    let f1 = c.number-k in
-    let e : ends s f1.result ≡ true = sym c.is_end.ensures ∙ c.if-is_end.true in
-    asks (shown c.word-slot.result c.session_at-x.result c.session_at-x.ensures c.put_slot.ensures)
-    (first-number s c.behind.result (read_to 0 7) f1.result 8 _ c.behind.ensures f1.ensures
-    (ended s f1.result _ e (same-look c.word-slot.ensures)))
+returns-in_err-k c =
+    asks_nothing c.from_residual.ensures (number_none _ c.behind-fields.ensures c.in_err-k.ensures)
+
+pub returns-in_err-end : goal.returns-in_err-end
+unfolding session_asked
+returns-in_err-end c =
+    asks_nothing c.from_residual-in_err-end.ensures
+    (number_some _ c.behind-fields.ensures c.in_ok-k.ensures ∙ end_none _ _ c.in_err-end.ensures)
 
 pub returns : goal.returns
 unfolding session_asked
 returns c =
-    let s = c.args.s.now in
-    let f1 = c.number-k in
-    let e : ends s f1.result ≡ false = sym c.is_end.ensures ∙ c.if-is_end.false in
-    asks unserved
-    (first-number s c.behind.result (read_to 0 7) f1.result 8 _ c.behind.ensures f1.ensures
-    (unended s f1.result _ e))
+    rw (read_value c.in_ok-k.ensures)
+    (sym (number_some _ c.behind-fields.ensures c.in_ok-k.ensures ∙ end_some _ _ c.in_ok-end.ensures))

@@ -11,7 +11,6 @@ use Rattle.scenario_md_words.proofs.put_refused.Goals as goal
 pub returns : goal.returns
 returns c =
     let e : to_z w32 (of_z w32 c.args.e.status) ≡ c.args.e.status = to_z-of_z {w = w32} (search rules) in
-    rw (← c.into.ensures)
-    (filled_as _
-    (ap (λ (x : ℤ). refused c.into.result ++ number 8 (unsigned x)) e)
-    (c.refused.ensures ▹ c.put_status.ensures))
+    let put = c.refused.ensures in
+    rw (← put.1)
+    (filled_as _ (ap (λ (x : ℤ). refused put.0 ++ number 8 (unsigned x)) e) (put.2 ▹ c.put_status.ensures))

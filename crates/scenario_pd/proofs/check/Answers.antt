@@ -1,32 +1,23 @@
--- The line ends behind the time.
-use mathlib.Core.Path.{refl, sym, ◌∙◌}
-use Rattle.line.specs.Line.{read_to}
-use Rattle.line.proofs.Fields.{ended, first-number, unended}
-use Rattle.answer.specs.Answer.{ascii}
-use Rattle.answer.proofs.Rooms.{filled_as}
-use Rattle.subscription_table.specs.Table.{marked}
-use Rattle.scenario_pd_words.proofs.Done.{done}
-use Rattle.scenario_pd.specs.Lines.{check_call}
-use Rattle.scenario_pd.proofs.Turning.{turned, uncalled}
+-- The time, and the line's end behind it.
+use mathlib.Core.Path.{sym, ap, ◌∙◌}
+use Rattle.line.proofs.Fields.{number_none, end_none, end_some}
+use Rattle.scenario_pd.specs.Lines.{called, check_call}
+use Rattle.scenario_pd.proofs.Fields.{unasked, number_said}
 use Rattle.scenario_pd.proofs.check.Goals as goal
 
-pub returns-then-not-is_end : goal.returns-then-not-is_end
+pub returns-in_err-time : goal.returns-in_err-time
 unfolding check_call
-returns-then-not-is_end c =
-    let a = c.args in
-    let time = c.number-time in
-    uncalled a.t.now a.store.now
-    (first-number a.s.now c.behind.result (read_to 0 5) time.result 16 _ c.behind.ensures time.ensures
-    (unended a.s.now time.result _ (sym c.is_end.ensures ∙ c.if-not-is_end.true)))
-    a.out.now
+returns-in_err-time c =
+    unasked c.from_residual.ensures (ap called (number_none _ c.behind-fields.ensures c.in_err-time.ensures))
+
+pub returns-in_err-end : goal.returns-in_err-end
+unfolding check_call
+returns-in_err-end c =
+    unasked c.from_residual-in_err-end.ensures
+    (ap called (number_said _ c.behind-fields.ensures c.in_ok-time.ensures ∙ end_none _ _ c.in_err-end.ensures))
 
 pub returns : goal.returns
 unfolding check_call
 returns c =
-    let a = c.args in
-    let time = c.number-time in
-    turned a.t.now a.store.now
-    (first-number a.s.now c.behind.result (read_to 0 5) time.result 16 _ c.behind.ensures time.ensures
-    (ended a.s.now time.result _ (sym c.is_end.ensures ∙ c.if-not-is_end.false) refl))
-    c.time_check-marked.ensures
-    (filled_as _ (done marked (ascii "marked") (λ n. refl) c.time_check-marked.result) c.put_done.ensures)
+    sym
+    (ap called (number_said _ c.behind-fields.ensures c.in_ok-time.ensures ∙ end_some _ _ c.in_ok-end.ensures))

@@ -1,33 +1,33 @@
--- The line ends behind two fields.
-use mathlib.Core.Path.{refl, sym, ap₂, ◌∙◌}
+-- Two words, and the line's end behind them.
+use mathlib.Core.Path.{sym, ◌∙◌}
+use mathlib.Core.List.{List}
+use mathlib.Core.Option.{Option}
 use Prim.Native.Nat.{ℕ}
-use Rattle.line.specs.Line.{read_to}
-use Rattle.line.proofs.Fields.{chosen, first-number, number_read, passed}
-use Rattle.scenario_pd.specs.Lines.{damaging, damaged}
-use Rattle.scenario_pd.proofs.Turning.{by-effect, unturned}
+use lib.ListN.{get_or}
+use Rattle.line.specs.Line.{with_end}
+use Rattle.line.proofs.Fields.{end_none, end_some}
+use Rattle.scenario_pd.specs.Lines.{Wanted, damages, damage_asked}
+use Rattle.scenario_pd.proofs.Fields.{unasked, words_unsaid, words_said}
 use Rattle.scenario_pd.proofs.damage.Goals as goal
 
-pub returns-then-not-is_end : goal.returns-then-not-is_end
-unfolding damaging
-returns-then-not-is_end c =
-    let a = c.args in
-    let f = c.number-k in
-    let g = c.number-n in
-    λ st. by-effect
-    (first-number a.s.now c.behind.result (read_to 0 6) f.result 8 _ c.behind.ensures f.ensures
-    (number_read a.s.now f.result g.result 8 _ g.ensures
-    (passed _ _ _ (sym c.is_end.ensures ∙ c.if-not-is_end.true) refl)))
-    (unturned a.t.now st a.out.now)
+-- what a line says behind its words
+abbrev behind : List ℕ → List ℕ → Option Wanted
+behind w left = with_end left (damages (get_or w 0 0) (get_or w 1 0))
+
+pub returns-in_err-slot : goal.returns-in_err-slot
+unfolding damage_asked
+returns-in_err-slot c =
+    unasked c.from_residual.ensures (words_unsaid 2 behind c.behind-fields.ensures c.in_err-slot.ensures.words)
+
+pub returns-in_err-end : goal.returns-in_err-end
+unfolding damage_asked
+returns-in_err-end c =
+    let w = c.in_ok-slot.ensures in
+    unasked c.from_residual-in_err-end.ensures
+    (words_said 2 behind c.behind-fields.ensures w.words w.rest ∙ end_none _ _ c.in_err-end.ensures)
 
 pub returns : goal.returns
-unfolding damaging
+unfolding damage_asked
 returns c =
-    let a = c.args in
-    let f = c.number-k in
-    let g = c.number-n in
-    λ st. by-effect
-    (first-number a.s.now c.behind.result (read_to 0 6) f.result 8 _ c.behind.ensures f.ensures
-    (number_read a.s.now f.result g.result 8 _ g.ensures
-    (chosen _ _ _ (sym c.is_end.ensures ∙ c.if-not-is_end.false)
-    (ap₂ (λ (x y : ℕ). damaged x y a.t.now st) (sym c.word.ensures) (sym c.word-2.ensures)))))
-    (c.lengthen.ensures st)
+    let w = c.in_ok-slot.ensures in
+    sym (words_said 2 behind c.behind-fields.ensures w.words w.rest ∙ end_some _ _ c.in_ok-end.ensures)

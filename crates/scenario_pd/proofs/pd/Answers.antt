@@ -1,52 +1,76 @@
--- Field by field, and the octets behind them.
-use mathlib.Core.Path.{◌≡◌, refl, ◌∙◌}
-use mathlib.Core.Option.{none}
-use Rattle.line.proofs.Said.{said-octets, unsaid}
+-- Two words and the time, and the octets behind them.
+use mathlib.Core.Path.{refl, ◌∙◌}
+use mathlib.Core.List.{List}
+use mathlib.Core.Option.{Option}
+use Prim.Native.Nat.{ℕ}
+use lib.ListN.{get_or}
+use Rattle.topography.specs.declared.TopoCounts.{TopoCounts}
 use Rattle.answer.specs.Answer.{ascii}
 use Rattle.answer.proofs.Rooms.{filled_as}
-use Rattle.subscription_table.specs.Table.{telegram, delivered}
-use Rattle.scenario_pd_words.proofs.Done.{done}
-use Rattle.scenario_pd.specs.Lines.{arrival_in, pd_call}
-use Rattle.scenario_pd.proofs.Turning.{turned, counted, uncalled, uncounted, pd-fields, same-telegram}
+use Rattle.line.specs.Line.{with_number, with_octets}
+use Rattle.line.proofs.Fields.{number_none, last_none, last_some}
+use Rattle.subscription_table.specs.Table.{Call, telegram, delivered}
+use Rattle.scenario_pd_words.proofs.Done.{said_granted}
+use Rattle.scenario_pd.specs.Lines.{pd_call}
+use Rattle.scenario_pd.proofs.Fields.{number_said, words_unsaid, words_said}
+use Rattle.scenario_pd.proofs.Turning.{turned, counted, uncalled, uncounted}
 use Rattle.scenario_pd.proofs.pd.Goals as goal
 
-pub returns-then-d : goal.returns-then-d
-returns-then-d c =
+-- what a line says behind its words
+abbrev behind : TopoCounts → List ℕ → List ℕ → Option Call
+behind counters w left =
+    with_number left 16 (λ time left.
+    with_octets left
+    (telegram (record { sender = get_or w 0 0; destination = get_or w 1 0; time = time; local = counters })))
+
+pub returns-in_err-sender : goal.returns-in_err-sender
+unfolding pd_call
+returns-in_err-sender c =
     let a = c.args in
-    let f1 = c.number-sender in
-    let f2 = c.number-destination in
-    let f3 = c.number-time in
-    let m = c.buffer-data in
-    let d = c.octets-d in
-    let f = pd-fields a.local a.s.now c.behind.result f1.result f2.result f3.result
-    c.behind.ensures f1.ensures f2.ensures f3.ensures in
-    let e : pd_call a.local a.s.now ≡ none =
-    f
-    ∙ unsaid a.s.now f3.result m.result d.result (telegram (arrival_in a.local f1.result f2.result f3.result))
-    m.ensures.value d.ensures.value c.if-d.true in
+    let e = words_unsaid 2 (behind a.local) c.behind-fields.ensures c.in_err-sender.ensures.words in
     record {
-      turns = uncalled a.t.now a.store.now e a.out.now;
-      counts = uncounted a.t.now a.store.now e a.statistics.now;
+      turns = uncalled a.t.now a.store.now a.out.now c.from_residual.ensures e;
+      counts = uncounted a.t.now a.store.now a.statistics.now e;
+    }
+
+pub returns-in_err-time : goal.returns-in_err-time
+unfolding pd_call
+returns-in_err-time c =
+    let a = c.args in
+    let w = c.in_ok-sender.ensures in
+    let e =
+    words_said 2 (behind a.local) c.behind-fields.ensures w.words w.rest ∙ number_none _ refl c.in_err-time.ensures in
+    record {
+      turns = uncalled a.t.now a.store.now a.out.now c.from_residual-in_err-time.ensures e;
+      counts = uncounted a.t.now a.store.now a.statistics.now e;
+    }
+
+pub returns-in_err-n : goal.returns-in_err-n
+unfolding pd_call
+returns-in_err-n c =
+    let a = c.args in
+    let w = c.in_ok-sender.ensures in
+    let e =
+    words_said 2 (behind a.local) c.behind-fields.ensures w.words w.rest ∙ number_said _ refl c.in_ok-time.ensures
+    ∙ last_none _ _ c.buffer-data.result c.buffer-data.ensures.value c.in_err-n.ensures.value in
+    record {
+      turns = uncalled a.t.now a.store.now a.out.now c.from_residual-in_err-n.ensures e;
+      counts = uncounted a.t.now a.store.now a.statistics.now e;
     }
 
 pub returns : goal.returns
+unfolding pd_call
 returns c =
     let a = c.args in
-    let f1 = c.number-sender in
-    let f2 = c.number-destination in
-    let f3 = c.number-time in
-    let m = c.buffer-data in
-    let d = c.octets-d in
+    let w = c.in_ok-sender.ensures in
+    let r = c.receive in
     let e =
-    pd-fields a.local a.s.now c.behind.result f1.result f2.result f3.result
-    c.behind.ensures f1.ensures f2.ensures f3.ensures
-    ∙ said-octets a.s.now f3.result m.result d.result (telegram (arrival_in a.local f1.result f2.result f3.result)) _
-    m.ensures.value d.ensures.value c.if-d.false d.ensures.target_after
-    ∙ same-telegram c.word.ensures c.word-2.ensures in
-    let r = c.receive-delivered in
+    words_said 2 (behind a.local) c.behind-fields.ensures w.words w.rest ∙ number_said _ refl c.in_ok-time.ensures
+    ∙ last_some _ _ c.in_ok-n.n c.buffer-data.result c.last.new.target c.buffer-data.ensures.value
+    c.in_ok-n.ensures.value c.in_ok-n.ensures.target_after in
     record {
       turns =
           turned a.t.now a.store.now e r.ensures.serves
-          (filled_as _ (done delivered (ascii "delivered") (λ n. refl) r.result) c.put_done.ensures);
+          (filled_as _ (said_granted delivered (ascii "delivered") (λ n. refl) r.result) c.granted.ensures);
       counts = counted a.t.now a.store.now e r.ensures;
     }

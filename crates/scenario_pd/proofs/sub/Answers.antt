@@ -1,53 +1,79 @@
--- Field by field.
-use mathlib.Core.Path.{◌≡◌, refl, sym, ◌∙◌}
-use mathlib.Core.Option.{none}
-use Rattle.answer.specs.Answer.{ascii}
-use Rattle.answer.proofs.Rooms.{filled_as}
-use Rattle.subscription_table.specs.Table.{granted}
-use Rattle.scenario_pd_words.proofs.Done.{done}
-use Rattle.scenario_pd.specs.Lines.{sub_call}
-use Rattle.scenario_pd.proofs.Turning.{turned, uncalled, sub-said, sub-other, sub-bad}
+-- Five words, the behaviour and the time, and the line's end behind them.
+use mathlib.Core.Path.{refl, sym, ap, ◌∙◌}
+use mathlib.Core.List.{List}
+use mathlib.Core.Option.{Option}
+use Prim.Native.Nat.{ℕ}
+use borrow.Author.Tests.{le-leb, lt-leb}
+use lib.ListN.{get_or}
+use Rattle.line.specs.Line.{with_number}
+use Rattle.line.proofs.Fields.{chosen, passed, number_none, end_none, end_some}
+use Rattle.subscription_table.specs.Table.{Call}
+use Rattle.scenario_pd.specs.Lines.{called, subscribing, sub_call}
+use Rattle.scenario_pd.proofs.Fields.{unasked, number_said, words_unsaid, words_said}
 use Rattle.scenario_pd.proofs.sub.Goals as goal
-use Rattle.scenario_pd.proofs.sub.Goals.{then-not-is_end-via-then-not-is_end, then-not-is_end-via-else-not-is_end+then-behaviour-gt2}
 
-pub returns-then-not-is_end : goal.returns-then-not-is_end
-returns-then-not-is_end c =
-    let a = c.args in
-    let b = c.behind in
-    let f1 = c.number-com_id in
-    let f2 = c.number-start in
-    let f3 = c.number-end in
-    let f4 = c.number-destination in
-    let f5 = c.number-timeout in
-    let f6 = c.number-behaviour in
-    let f7 = c.number-time in
-    let bad = sub-bad a.s.now b.result f1.result f2.result f3.result f4.result f5.result f6.result f7.result
-    b.ensures f1.ensures f2.ensures f3.ensures f4.ensures f5.ensures f6.ensures f7.ensures in
-    let other = sub-other a.s.now b.result f1.result f2.result f3.result f4.result f5.result f6.result f7.result
-    b.ensures f1.ensures f2.ensures f3.ensures f4.ensures f5.ensures f6.ensures f7.ensures in
-    let e : sub_call a.s.now ≡ none =
-    elim c.then-not-is_end.branch [
-      | then-not-is_end-via-then-not-is_end w ↦ bad (sym c.is_end.ensures ∙ w.if-not-is_end.true)
-      | then-not-is_end-via-else-not-is_end+then-behaviour-gt2 w ↦ other w.if-behaviour-gt2.true
-    ] in
-    uncalled a.t.now a.store.now e a.out.now
+-- what a line says behind its words
+abbrev behind : List ℕ → List ℕ → Option Call
+behind w left =
+    with_number left 1 (λ behaviour left.
+    with_number left 16 (λ time left.
+    subscribing left
+    (record {
+      com_id = get_or w 0 0;
+      senders = record { start = get_or w 1 0; end = get_or w 2 0 };
+      destination = get_or w 3 0;
+    })
+    (get_or w 4 0) behaviour time))
+
+pub returns-in_err-com_id : goal.returns-in_err-com_id
+unfolding sub_call
+returns-in_err-com_id c =
+    unasked c.from_residual.ensures
+    (ap called (words_unsaid 5 behind c.behind-fields.ensures c.in_err-com_id.ensures.words))
+
+pub returns-in_err-behaviour : goal.returns-in_err-behaviour
+unfolding sub_call
+returns-in_err-behaviour c =
+    let w = c.in_ok-com_id.ensures in
+    unasked c.from_residual-in_err-behaviour.ensures
+    (ap called
+    (words_said 5 behind c.behind-fields.ensures w.words w.rest ∙ number_none _ refl c.in_err-behaviour.ensures))
+
+pub returns-in_err-time : goal.returns-in_err-time
+unfolding sub_call
+returns-in_err-time c =
+    let w = c.in_ok-com_id.ensures in
+    unasked c.from_residual-in_err-time.ensures
+    (ap called
+    (words_said 5 behind c.behind-fields.ensures w.words w.rest ∙ number_said _ refl c.in_ok-behaviour.ensures
+    ∙ number_none _ refl c.in_err-time.ensures))
+
+pub returns-then-behaviour-gt2 : goal.returns-then-behaviour-gt2
+unfolding sub_call
+returns-then-behaviour-gt2 c =
+    let w = c.in_ok-com_id.ensures in
+    sym
+    (ap called
+    (words_said 5 behind c.behind-fields.ensures w.words w.rest ∙ number_said _ refl c.in_ok-behaviour.ensures
+    ∙ number_said _ refl c.in_ok-time.ensures
+    ∙ passed _ _ _ (lt-leb _ 2 c.if-behaviour-gt2.true) refl))
+
+pub returns-in_err-end : goal.returns-in_err-end
+unfolding sub_call
+returns-in_err-end c =
+    let w = c.in_ok-com_id.ensures in
+    unasked c.from_residual-in_err-end.ensures
+    (ap called
+    (words_said 5 behind c.behind-fields.ensures w.words w.rest ∙ number_said _ refl c.in_ok-behaviour.ensures
+    ∙ number_said _ refl c.in_ok-time.ensures
+    ∙ chosen _ _ _ (le-leb _ 2 c.if-behaviour-gt2.false) (end_none _ _ c.in_err-end.ensures)))
 
 pub returns : goal.returns
+unfolding sub_call
 returns c =
-    let a = c.args in
-    let b = c.behind in
-    let f1 = c.number-com_id in
-    let f2 = c.number-start in
-    let f3 = c.number-end in
-    let f4 = c.number-destination in
-    let f5 = c.number-timeout in
-    let f6 = c.number-behaviour in
-    let f7 = c.number-time in
-    let r = c.subscribe-granted in
-    turned a.t.now a.store.now
-    (sub-said a.s.now b.result f1.result f2.result f3.result f4.result f5.result f6.result f7.result
-    b.ensures f1.ensures f2.ensures f3.ensures f4.ensures f5.ensures f6.ensures f7.ensures
-    c.if-behaviour-gt2.false (sym c.is_end.ensures ∙ c.if-not-is_end.false)
-    c.word.ensures c.word-2.ensures c.word-3.ensures c.word-4.ensures c.word-5.ensures)
-    r.ensures
-    (filled_as _ (done granted (ascii "slot") (λ n. refl) r.result) c.put_done.ensures)
+    let w = c.in_ok-com_id.ensures in
+    sym
+    (ap called
+    (words_said 5 behind c.behind-fields.ensures w.words w.rest ∙ number_said _ refl c.in_ok-behaviour.ensures
+    ∙ number_said _ refl c.in_ok-time.ensures
+    ∙ chosen _ _ _ (le-leb _ 2 c.if-behaviour-gt2.false) (end_some _ _ c.in_ok-end.ensures)))

@@ -1,31 +1,28 @@
--- The line ends behind the slot's number.
+-- The slot's number, and the line's end behind it.
 use mathlib.Core.Path.{sym, ap, ◌∙◌}
-use Prim.Native.Nat.{ℕ}
 use mathlib.Core.Option.{some}
-use Rattle.line.specs.Line.{read_to}
-use Rattle.line.proofs.Fields.{ended, first-number, unended}
+use Prim.Native.Nat.{ℕ}
+use Rattle.line.proofs.Fields.{number_none, number_some, read_value, end_none, end_some}
 use Rattle.subscription_table.specs.Table.{unsubscribe}
-use Rattle.scenario_pd.specs.Lines.{unsub_call}
-use Rattle.scenario_pd.proofs.Turning.{turned, uncalled}
+use Rattle.scenario_pd.specs.Lines.{called, unsub_call}
+use Rattle.scenario_pd.proofs.Fields.{unasked}
 use Rattle.scenario_pd.proofs.unsub.Goals as goal
 
-pub returns-then-not-is_end : goal.returns-then-not-is_end
+pub returns-in_err-k : goal.returns-in_err-k
 unfolding unsub_call
-returns-then-not-is_end c =
-    let a = c.args in
-    let k = c.number-k in
-    uncalled a.t.now a.store.now
-    (first-number a.s.now c.behind.result (read_to 0 5) k.result 8 _ c.behind.ensures k.ensures
-    (unended a.s.now k.result _ (sym c.is_end.ensures ∙ c.if-not-is_end.true)))
-    a.out.now
+returns-in_err-k c =
+    unasked c.from_residual.ensures (ap called (number_none _ c.behind-fields.ensures c.in_err-k.ensures))
+
+pub returns-in_err-end : goal.returns-in_err-end
+unfolding unsub_call
+returns-in_err-end c =
+    unasked c.from_residual-in_err-end.ensures
+    (ap called (number_some _ c.behind-fields.ensures c.in_ok-k.ensures ∙ end_none _ _ c.in_err-end.ensures))
 
 pub returns : goal.returns
 unfolding unsub_call
 returns c =
-    let a = c.args in
-    let k = c.number-k in
-    turned a.t.now a.store.now
-    (first-number a.s.now c.behind.result (read_to 0 5) k.result 8 _ c.behind.ensures k.ensures
-    (ended a.s.now k.result _ (sym c.is_end.ensures ∙ c.if-not-is_end.false)
-    (ap (λ (x : ℕ). some (unsubscribe x)) (sym c.word.ensures))))
-    c.unsubscribe-freed.ensures c.put_freed.ensures
+    sym
+    (ap called
+    (number_some _ c.behind-fields.ensures c.in_ok-k.ensures ∙ end_some _ _ c.in_ok-end.ensures
+    ∙ ap (λ (k : ℕ). some (unsubscribe k)) (sym (read_value c.in_ok-k.ensures))))

@@ -16,4 +16,4 @@ returns-in-Err c =
     let a = c.args in
     let lent = lends a.t.now a.store.now c.min.result c.min-2.result (search rules) (search rules) in
     filled_as _ (refuses a.k a.substitute.now lent c.in-Err.r c.in-Err.ensures.reads)
-    (rw c.from.ensures at c.refused.ensures)
+    (rw c.refused.ensures.1 at c.refused.ensures.2)

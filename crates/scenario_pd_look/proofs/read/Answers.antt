@@ -1,50 +1,39 @@
--- The octets read are the substitute set.
+-- The slot's number, and the substitute set behind it.
 use mathlib.Core.Path.{sym, ap, ◌∙◌}
 use mathlib.Core.List.{List}
 use mathlib.Core.Option.{some}
 use Prim.Native.Nat.{ℕ}
 use lib.ListN.{take}
-use Rattle.line.specs.Line.{read_to, eight}
-use Rattle.line.proofs.Fields.{first-number}
-use Rattle.line.proofs.Said.{said-octets, unsaid}
-use Rattle.subscription_table.specs.Table.{read, step}
-use Rattle.line.specs.declared.Field.{Field}
-use Rattle.lent.specs.declared.Slots.{Slots}
 use Rattle.lent.specs.Lent.{lent_of}
-use Rattle.answer.proofs.Said.{answered_by, not_answered}
+use Rattle.subscription_table.specs.Table.{read, step}
+use Rattle.answer.proofs.Said.{answered_by}
+use Rattle.line.proofs.Fields.{number_none, number_some, read_value, last_none, last_some, unanswered}
 use Rattle.scenario_pd_words.specs.Words.{answer_words}
 use Rattle.scenario_pd_look.specs.Look.{read_answer}
 use Rattle.scenario_pd_look.proofs.read.Goals as goal
 
--- the words of what a slot shows
-abbrev shown : Slots → List ℕ → Field → List ℕ → List (List ℕ)
-shown t store k set = answer_words (step (read (eight k) set) (lent_of t store)).answer
-
-pub returns-then-d : goal.returns-then-d
+pub returns-in_err-k : goal.returns-in_err-k
 unfolding read_answer
-returns-then-d c =
-    let a = c.args in
-    let k = c.number-k in
-    let m = c.buffer-data in
-    let d = c.octets-d in
-    not_answered
-    (first-number a.s.now c.behind.result (read_to 0 4) k.result 8 _ c.behind.ensures k.ensures
-    (unsaid a.s.now k.result m.result d.result (shown a.t.now a.store.now k.result)
-    m.ensures.value d.ensures.value c.if-d.true))
-    a.out.now
+returns-in_err-k c =
+    unanswered c.args.out.now c.from_residual.ensures (number_none _ c.behind-fields.ensures c.in_err-k.ensures)
+
+pub returns-in_err-n : goal.returns-in_err-n
+unfolding read_answer
+returns-in_err-n c =
+    unanswered c.args.out.now c.from_residual-in_err-n.ensures
+    (number_some _ c.behind-fields.ensures c.in_ok-k.ensures
+    ∙ last_none _ _ c.buffer-data.result c.buffer-data.ensures.value c.in_err-n.ensures.value)
 
 pub returns : goal.returns
 unfolding read_answer
 returns c =
     let a = c.args in
-    let k = c.number-k in
-    let m = c.buffer-data in
-    let d = c.octets-d in
+    let set : List ℕ = take c.in_ok-n.n c.last.new.target in
     answered_by
-    (first-number a.s.now c.behind.result (read_to 0 4) k.result 8 _ c.behind.ensures k.ensures
-    (said-octets a.s.now k.result m.result d.result (shown a.t.now a.store.now k.result) _
-    m.ensures.value d.ensures.value c.if-d.false d.ensures.target_after
+    (number_some _ c.behind-fields.ensures c.in_ok-k.ensures
+    ∙ last_some _ _ c.in_ok-n.n c.buffer-data.result c.last.new.target c.buffer-data.ensures.value
+    c.in_ok-n.ensures.value c.in_ok-n.ensures.target_after
     ∙ ap
-    (λ (j : ℕ). some (answer_words (step (read j (take d.result.count d.new.target)) (lent_of a.t.now a.store.now)).answer))
-    (sym c.word.ensures)))
+    (λ (x : ℕ). some (answer_words (step (read x set) (lent_of a.t.now a.store.now)).answer))
+    (sym (read_value c.in_ok-k.ensures)))
     c.put_read.ensures

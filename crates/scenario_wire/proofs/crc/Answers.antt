@@ -1,16 +1,21 @@
--- The last field is bad, or its octets are checked.
+-- The last field is of another form, or its octets are checked.
+use Rattle.line.proofs.Fields.{unanswered}
 use Rattle.answer.proofs.Rooms.{◌▹◌}
-use Rattle.answer.proofs.Said.{not_answered, answered_by}
-use Rattle.scenario_wire.proofs.Wired.{crc-none, crc-some, crc-filled}
+use Rattle.answer.proofs.Said.{answered_by}
+use Rattle.scenario_wire.specs.Wire.{crc_answer}
+use Rattle.scenario_wire.proofs.Wired.{only_none, only_some, crc_filled}
 use Rattle.scenario_wire.proofs.crc.Goals as goal
 
-pub returns-then-d : goal.returns-then-d
-returns-then-d c = let a = c.args in
-    not_answered (crc-none a.s.now c.behind.result c.buffer-data.result c.octets-d.result c.buffer-data.ensures.value
-    c.octets-d.ensures.value c.behind.ensures c.if-d.true) a.out.now
+pub returns-in_err-n : goal.returns-in_err-n
+unfolding crc_answer
+returns-in_err-n c =
+    unanswered c.args.out.now c.from_residual.ensures
+    (only_none _ c.buffer-data.result c.behind.ensures c.buffer-data.ensures.value c.in_err-n.ensures.value)
 
 pub returns : goal.returns
-returns c = let a = c.args in
-    answered_by (crc-some a.s.now c.behind.result c.buffer-data.result c.octets-d.result c.buffer-data.ensures.value
-    c.octets-d.ensures.value c.octets-d.new.target c.behind.ensures c.if-d.false c.octets-d.ensures.target_after)
-    (crc-filled _ c.frame_check.ensures (c.word.ensures ▹ c.number.ensures))
+unfolding crc_answer
+returns c =
+    answered_by
+    (only_some _ c.buffer-data.result c.behind.ensures c.buffer-data.ensures.value c.in_ok-n.n c.last.new.target
+    c.in_ok-n.ensures.value c.in_ok-n.ensures.target_after)
+    (crc_filled _ c.frame_check.ensures (c.word.ensures ▹ c.number.ensures))

@@ -1,37 +1,58 @@
--- The fields are those of the line; the last is bad, or its octets are written.
-use mathlib.Core.Path.{ap, ◌∙◌}
+-- The fields one after the other; the octets of the last are written.
+use mathlib.Core.Path.{refl, ap, ◌∙◌}
 use mathlib.Core.List.{List}
 use Prim.Native.Nat.{ℕ}
 use lib.ListN.{take}
-use Rattle.line.specs.Line.{four, target_of}
-use Rattle.line.proofs.Fields.{target-of}
-use Rattle.line.proofs.Said.{unsaid, said-octets}
+use Rattle.line.proofs.Fields.{number_none, number_some, read_value, last_none, last_some, unanswered}
 use Rattle.answer.proofs.Rooms.{filled_as}
-use Rattle.answer.proofs.Said.{not_answered, answered_by}
-use Rattle.scenario_wire.proofs.Wired.{pdwrite-is, pd-wrote}
-use Rattle.scenario_wire.specs.Wire.{pd_wrote_words}
+use Rattle.answer.proofs.Said.{answered_by}
+use Rattle.scenario_wire.specs.Wire.{pdwrite_answer, pd_wrote_words}
+use Rattle.scenario_wire.proofs.Wired.{found_none, found_some, target_read, pd_wrote}
 use Rattle.scenario_wire.proofs.pd_write.Goals as goal
 
-pub returns-then-d : goal.returns-then-d
-returns-then-d c = let a = c.args in
-    let is = pdwrite-is a.s.now c.behind.result c.number.result c.pd_fields-f.result c.number-room.result
-    c.behind.ensures c.number.ensures c.pd_fields-f.ensures c.number-room.ensures in
-    not_answered (is ∙ unsaid a.s.now c.number-room.result c.buffer-data.result c.octets-d.result
-    (pd_wrote_words c.pd_fields-f.result.header (target_of (four c.number-room.result)))
-    c.buffer-data.ensures.value c.octets-d.ensures.value c.if-d.true) a.out.now
+pub returns-in_err-counter : goal.returns-in_err-counter
+unfolding pdwrite_answer
+returns-in_err-counter c =
+    unanswered c.args.out.now c.from_residual.ensures (number_none _ c.behind-fields.ensures c.in_err-counter.ensures)
+
+pub returns-in_err-header : goal.returns-in_err-header
+unfolding pdwrite_answer
+returns-in_err-header c =
+    unanswered c.args.out.now c.from_residual-in_err-header.ensures
+    (number_some _ c.behind-fields.ensures c.in_ok-counter.ensures
+    ∙ found_none _ (rw (read_value c.in_ok-counter.ensures) at c.in_err-header.ensures))
+
+pub returns-in_err-room : goal.returns-in_err-room
+unfolding pdwrite_answer
+returns-in_err-room c =
+    unanswered c.args.out.now c.from_residual-in_err-room.ensures
+    (number_some _ c.behind-fields.ensures c.in_ok-counter.ensures
+    ∙ found_some _ (rw (read_value c.in_ok-counter.ensures) at c.in_ok-header.ensures)
+    ∙ number_none _ refl c.in_err-room.ensures)
+
+pub returns-in_err-n : goal.returns-in_err-n
+unfolding pdwrite_answer
+returns-in_err-n c =
+    unanswered c.args.out.now c.from_residual-in_err-n.ensures
+    (number_some _ c.behind-fields.ensures c.in_ok-counter.ensures
+    ∙ found_some _ (rw (read_value c.in_ok-counter.ensures) at c.in_ok-header.ensures)
+    ∙ number_some _ refl c.in_ok-room.ensures
+    ∙ last_none _ _ c.buffer-data.result c.buffer-data.ensures.value c.in_err-n.ensures.value)
 
 pub returns : goal.returns
-returns c = let a = c.args in
-    let h = c.pd_fields-f.result.header in
-    let d : List ℕ = take c.octets-d.result.count c.octets-d.new.target in
-    let t : List ℕ = take c.room_of-e.result c.fresh_target-target.result in
-    let e = target-of c.fresh_target-target.result c.room_of-e.result c.number-room.result.value
-    c.fresh_target-target.ensures.value_2 c.room_of-e.ensures.value in
-    let is = pdwrite-is a.s.now c.behind.result c.number.result c.pd_fields-f.result c.number-room.result
-    c.behind.ensures c.number.ensures c.pd_fields-f.ensures c.number-room.ensures in
-    let w = pd-wrote h t d c.write_pd-written.result c.write_pd-written.new.target c.write_pd-written.ensures in
-    answered_by (is ∙ said-octets a.s.now c.number-room.result c.buffer-data.result c.octets-d.result
-    (pd_wrote_words h (target_of (four c.number-room.result))) c.octets-d.new.target c.buffer-data.ensures.value
-    c.octets-d.ensures.value c.if-d.false c.octets-d.ensures.target_after)
-    (filled_as (pd_wrote_words h (target_of (four c.number-room.result)) d)
-    (w ∙ ap (λ (t : List ℕ). pd_wrote_words h t d) e) c.put_written.ensures)
+unfolding pdwrite_answer
+returns c =
+    let h = c.in_ok-header.header in
+    let d : List ℕ = take c.in_ok-n.n c.last.new.target in
+    let t : List ℕ = take c.from.result c.fresh_target-target.result in
+    answered_by
+    (number_some _ c.behind-fields.ensures c.in_ok-counter.ensures
+    ∙ found_some _ (rw (read_value c.in_ok-counter.ensures) at c.in_ok-header.ensures)
+    ∙ number_some _ refl c.in_ok-room.ensures
+    ∙ last_some _ _ c.in_ok-n.n c.buffer-data.result c.last.new.target c.buffer-data.ensures.value
+    c.in_ok-n.ensures.value c.in_ok-n.ensures.target_after)
+    (filled_as _
+    (pd_wrote h t d c.write_pd-written.result c.write_pd-written.new.target c.write_pd-written.ensures
+    ∙ ap (λ (b : List ℕ). pd_wrote_words h b d)
+    (target_read _ c.from.ensures c.fresh_target-target.ensures.value_2 (read_value c.in_ok-room.ensures)))
+    c.put_written.ensures)

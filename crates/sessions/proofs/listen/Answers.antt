@@ -27,9 +27,7 @@ returns-in_err-k c =
     let a = c.args in
     let o = lowest (λ (l : Listener). not l.used) (tables_of a.octets.now).listeners in
     let p = err_from_is_err_and c.from_residual-in_err-k.result c.from_residual-in_err-k.ensures.1 in
-    let s =
-    refused-none o NoFreeSlot c.in_err-k.field-0.0
-    (rw (← c.find_free_listener.ensures, ← c.ok_or.ensures.value) c.in_err-k.was) in
+    let s = refused-none o NoFreeSlot c.find_free_listener.ensures c.ok_or.ensures.value _ c.in_err-k.was in
     rw (p.1, p.2, s.1)
     (listen-full a.com_id a.senders a.uri a.octets.now
     (judged c.new-l.result
@@ -41,9 +39,7 @@ pub returns : goal.returns
 returns c =
     let a = c.args in
     let o = lowest (λ (l : Listener). not l.used) (tables_of a.octets.now).listeners in
-    let s =
-    granted-some o NoFreeSlot c.in_ok-k.k
-    (rw (← c.find_free_listener.ensures, ← c.ok_or.ensures.value) c.in_ok-k.was) in
+    let s = granted-some o NoFreeSlot c.find_free_listener.ensures c.ok_or.ensures.value _ c.in_ok-k.was in
     listen-done a.com_id a.senders a.uri a.octets.now
     (judged c.new-l.result
     (λ (l : Listener). first_of (listen_checks l.com_id l.senders l.uri (tables_of a.octets.now).listeners))

@@ -3,15 +3,12 @@ use mathlib.Core.List.{List, ◌++◌}
 use mathlib.Core.Path.{◌≡◌, refl, ap, ◌∙◌}
 use Prim.Native.Nat.{ℕ, ◌+◌, ◌-◌}
 use native.Mathlib.Omega.{arith}
-use lib.ListN.{length, take, length-take, replicate, length-replicate}
+use lib.ListN.{length, take, replicate, length-replicate}
 use Rattle.fcs.specs.Fcs.{crc32}
 use Rattle.telegram.specs.Telegram.{padded}
 use Rattle.octets.proofs.Puts.{kept, next}
 use Rattle.octets.specs.Octets.{little_of, put}
 use Rattle.telegram.proofs.finish.Goals as goal
-
-pub slice_bounds-frame_check-end-2 : goal.slice_bounds-frame_check-end-2
-slice_bounds-frame_check-end-2 c = simp length-take (omega arith)
 
 pub returns : goal.returns
 returns c =

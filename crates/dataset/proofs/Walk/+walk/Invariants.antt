@@ -10,22 +10,19 @@ use Rattle.dataset.proofs.Steps.{Reaches}
 use Rattle.dataset.proofs.Walk.+walk.Given as goal
 
 abbrev pub decreases-datasets : goal.decreases-datasets
-decreases-datasets g l = 3 * l.levels
-
-abbrev pub decreases-items : goal.decreases-items
-decreases-items g l = 3 * l.levels + 1
+decreases-datasets g l = 2 * l.self.now.levels
 
 abbrev pub decreases-dataset : goal.decreases-dataset
-decreases-dataset g l = 3 * l.levels + 2
+decreases-dataset g l = 2 * l.self.now.levels + 1
 
 abbrev pub invariant-datasets-loop : goal.invariant-datasets-loop
 invariant-datasets-loop g l = record {
   in_source : l.p ≤ length l.self.source.now;
   same_length : length l.target ≡ length l.initial.target;
-  reaches : Reaches (nested_of l.levels l.self.form l.self.run.now l.id l.n (drop l.from l.self.source.now))
+  reaches : Reaches (nested_of l.self.levels l.self.form l.self.run.now l.id l.n (drop l.from l.self.source.now))
       l.self.source.now l.from (WRITE-type (number g.row.WRITE)) l.initial.target
       (times (l.n - l.counter)
-      (walk_of l.self.form (nested_of (l.levels - 1) l.self.form l.self.run.now) (map element_of l.elements) None)
+      (walk_of l.self.form (nested_of (l.self.levels - 1) l.self.form l.self.run.now) (map element_of l.elements) None)
       (drop l.p l.self.source.now)) l.p l.target;
 }
 
@@ -34,9 +31,9 @@ invariant-dataset-loop-t g l = record {
   in_source : l.p ≤ length l.self.source.now;
   same_length : length l.target ≡ length l.initial.target;
   reaches : Reaches
-      (walk_of l.self.form (nested_of l.levels l.self.form l.self.run.now) (map element_of l.elements) None
+      (walk_of l.self.form (nested_of l.self.levels l.self.form l.self.run.now) (map element_of l.elements) None
       (drop l.from l.self.source.now))
       l.self.source.now l.from (WRITE-type (number g.row.WRITE)) l.initial.target
-      (walk_of l.self.form (nested_of l.levels l.self.form l.self.run.now)
+      (walk_of l.self.form (nested_of l.self.levels l.self.form l.self.run.now)
       (map element_of (drop l.t-index l.elements)) l.before (drop l.p l.self.source.now)) l.p l.target;
 }

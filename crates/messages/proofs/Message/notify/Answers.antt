@@ -14,9 +14,7 @@ returns-in_err-listener c =
     let h = heard_by c.args.self.now in
     let l = hearing h (tables_of o).listeners in
     let p = err_from_is_err_and c.from_residual.result c.from_residual.ensures.1 in
-    let s =
-    refused-none l NoMatch c.in_err-listener.field-0.0
-    (rw (← c.listener.ensures, ← c.ok_or.ensures.value) c.in_err-listener.was) in
+    let s = refused-none l NoMatch c.listener.ensures c.ok_or.ensures.value _ c.in_err-listener.was in
     rw (p.1, p.2, s.1) (unheard o h s.0)
 
 pub returns : goal.returns
@@ -25,5 +23,4 @@ returns c =
     let h = heard_by c.args.self.now in
     let l = hearing h (tables_of o).listeners in
     heard o h c.in_ok-listener.listener
-    (granted-some l NoMatch c.in_ok-listener.listener
-    (rw (← c.listener.ensures, ← c.ok_or.ensures.value) c.in_ok-listener.was))
+    (granted-some l NoMatch c.listener.ensures c.ok_or.ensures.value _ c.in_ok-listener.was)

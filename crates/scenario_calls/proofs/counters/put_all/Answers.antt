@@ -1,5 +1,5 @@
 -- Each number is put behind those before it.
-use Rattle.std.proofs.Common.{◌≡◌, ap, sym, ◌∙◌, ℕ, ◌++◌, arith, get_or, take}
+use Rattle.std.proofs.Common.{ap, sym, ◌∙◌, ℕ, ◌++◌, arith, take}
 use Rattle.std.proofs.lemmas.List.{take_all}
 use Rattle.answer.specs.Answer.{decimal}
 use Rattle.answer.proofs.Rooms.{◌▹◌, filled_as}

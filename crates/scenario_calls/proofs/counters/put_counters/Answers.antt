@@ -10,5 +10,6 @@ pub returns : goal.returns
 returns c =
     let a = c.args in
     filled_as _
-    (ap₂ (λ (m n : ℕ). spaced a.family.now ++ decimal m ++ decimal n ++ decimals (part 7 2 a.c.now.refused)) c.from.ensures c.from-2.ensures)
+    (ap₂ (λ (m n : ℕ). spaced a.family.now ++ decimal m ++ decimal n ++ decimals (part 7 2 a.c.now.refused))
+    c.from.ensures c.from-2.ensures)
     (c.word.ensures ▹ c.decimal.ensures ▹ c.decimal-2.ensures ▹ c.put_all.ensures)

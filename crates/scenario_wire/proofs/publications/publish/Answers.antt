@@ -1,22 +1,35 @@
--- The line ends behind its cycle, or is bad.
-use mathlib.Core.Path.{sym, ap, ◌∙◌}
+-- The fields one after the other, and the line's end behind them.
+use mathlib.Core.Path.{refl, ap, ◌∙◌}
 use Rattle.std.specs.Prelude.{Some}
 use Rattle.publication.specs.Publication.{made_of}
-use Rattle.line.specs.Line.{eight}
-use Rattle.answer.specs.Answer.{word}
-use Rattle.scenario_wire.proofs.Wired.{pub-made, pub-bad, publishes-some, publishes-none}
+use Rattle.line.proofs.Fields.{number_none, number_some, read_value, end_none, end_some}
+use Rattle.scenario_wire.specs.Publications.{pub_said}
+use Rattle.scenario_wire.proofs.Wired.{found_none, found_some, publishes_none, publishes_some}
 use Rattle.scenario_wire.proofs.publications.publish.Goals as goal
 
-pub returns-then-not-is_end : goal.returns-then-not-is_end
-returns-then-not-is_end c = let a = c.args in
-    publishes-none (pub-bad a.s.now c.behind.result c.pd_fields-f.result c.number-cycle.result c.behind.ensures
-    c.pd_fields-f.ensures c.number-cycle.ensures (sym c.is_end.ensures ∙ c.if-not-is_end.true)) a.held.now
-    a.out.now
+pub returns-in_err-header : goal.returns-in_err-header
+unfolding pub_said
+returns-in_err-header c =
+    publishes_none c.from_residual.ensures (found_none _ (rw c.behind-fields.ensures at c.in_err-header.ensures))
+
+pub returns-in_err-cycle : goal.returns-in_err-cycle
+unfolding pub_said
+returns-in_err-cycle c =
+    publishes_none c.from_residual-in_err-cycle.ensures
+    (found_some _ (rw c.behind-fields.ensures at c.in_ok-header.ensures) ∙ number_none _ refl c.in_err-cycle.ensures)
+
+pub returns-in_err-end : goal.returns-in_err-end
+unfolding pub_said
+returns-in_err-end c =
+    publishes_none c.from_residual-in_err-end.ensures
+    (found_some _ (rw c.behind-fields.ensures at c.in_ok-header.ensures) ∙ number_some _ refl c.in_ok-cycle.ensures
+    ∙ end_none _ _ c.in_err-end.ensures)
 
 pub returns : goal.returns
-returns c = let a = c.args in
-    let h = c.pd_fields-f.result.header in
-    publishes-some (record { words = word "ok"; held = Some (made_of h (eight c.number-cycle.result)) })
-    (pub-made a.s.now c.behind.result c.pd_fields-f.result c.number-cycle.result c.behind.ensures
-    c.pd_fields-f.ensures c.number-cycle.ensures (sym c.is_end.ensures ∙ c.if-not-is_end.false)) c.word-2.ensures
-    (ap Some (c.new.ensures ∙ ap (made_of h) c.word.ensures))
+unfolding pub_said
+returns c =
+    publishes_some _
+    (found_some _ (rw c.behind-fields.ensures at c.in_ok-header.ensures) ∙ number_some _ refl c.in_ok-cycle.ensures
+    ∙ end_some _ _ c.in_ok-end.ensures)
+    c.word-2.ensures
+    (ap Some (c.new.ensures ∙ ap (made_of c.in_ok-header.header) (read_value c.in_ok-cycle.ensures)))

@@ -23,16 +23,6 @@ returns-in_err-passed c =
           (refused-telegram-follows _ _ _ _ _ f c.in_err-passed.ensures);
     }
 
-pub returns-in_err-t : goal.returns-in_err-t
-returns-in_err-t c =
-    let e = c.in_err-t.ensures in
-    record {
-      slots = e.lends.slots;
-      store = e.lends.store;
-      follows = rw (told-err _ _ _ c.from_residual-in_err-t.ensures.1)
-          (telegram-follows _ _ _ _ _ _ _ _ _ (sym c.in_ok-passed.ensures) e.sweeps);
-    }
-
 pub returns : goal.returns
 returns c =
     let e = c.in_ok-t.ensures in

@@ -26,13 +26,6 @@ returns-in_err-k c =
           (refused-follows q a.time _ _ f _ (sym c.free_slot.ensures ∙ c.in_err-k.was));
     }
 
-pub renew-requires-clause-slot : goal.renew-requires-clause-slot
-renew-requires-clause-slot c =
-    let a = c.args in
-    let f = fitting _ _ (sym c.judge_sizes.ensures ∙ c.in_ok-judge_sizes.was) in
-    let q : Request = record { filter = a.f; timeout = a.timeout; behaviour = a.behaviour } in
-    granted-there q a.time _ _ f _ (sym c.free_slot.ensures ∙ c.in_ok-k.was)
-
 pub renew-requires-clause-part : goal.renew-requires-clause-part
 renew-requires-clause-part c =
     let a = c.args in
