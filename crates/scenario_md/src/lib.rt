@@ -210,7 +210,7 @@ fn receive(
     scenario_md_words::put_heard(out, said);
 }
 
-// `md SENDER DEST NOW OCTETS`
+// `md SENDER DEST NOW OCTETS`. Reads as `pd` of scenario_pd does: each hands the datagram to a call of its own.
 fn md(
     tables: &mut [u8; 1280],
     statistics: &mut Statistics,

@@ -192,7 +192,7 @@ fn serve(asked: Asked, t: &mut Slots, store: &mut [u8], out: &mut Room) -> Optio
     Some(())
 }
 
-// `pd SENDER DEST NOW OCTETS`
+// `pd SENDER DEST NOW OCTETS`. Reads as `md` of scenario_md does: each hands the datagram to a call of its own.
 fn pd(
     t: &mut Slots,
     statistics: &mut Statistics,
