@@ -26,6 +26,10 @@ state_number NeverReceived = 0
 state_number Valid = 1
 state_number TimedOut = 2
 
+-- refused with a number, which may be any
+abbrev pub nothing_shown : ℕ → Shown
+nothing_shown n = record { refusal = n; state = 0; substitute = false; start = 0; length = 0 }
+
 -- of slot k: the substitute set whole, or octets of the store from a start on
 abbrev pub of_reading : ℕ → Result View Refusal → Shown
 of_reading k (Ok v) =
@@ -36,4 +40,4 @@ of_reading k (Ok v) =
       start = cond v.substitute 0 (k * slot_octets);
       length = cond v.substitute 0 v.length;
     }
-of_reading k (Err r) = record { refusal = number r; state = 0; substitute = false; start = 0; length = 0 }
+of_reading k (Err r) = nothing_shown (number r)

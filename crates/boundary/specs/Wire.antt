@@ -18,9 +18,13 @@ use Rattle.boundary.specs.declared.Sending.{Sending}
 abbrev pub granted : ℕ → Outcome
 granted v = record { refusal = 0; value = v }
 
+-- refused with a number, which may be any
+abbrev pub refused_with : ℕ → Outcome
+refused_with n = record { refusal = n; value = 0 }
+
 -- refused, with its number
 abbrev pub refused : Refusal → Outcome
-refused r = record { refusal = number r; value = 0 }
+refused r = refused_with (number r)
 
 -- a slot, a count or a length that a call answers
 abbrev pub of_result : Result ℕ Refusal → Outcome
@@ -49,17 +53,20 @@ no_common =
 abbrev pub no_pd_header : PdHeader
 no_pd_header = record { common = no_common; reserved = 0; reply_com_id = 0; reply_ip_address = 0 }
 
+abbrev pub no_pd_datagram : ℕ → PdDatagram
+no_pd_datagram n = record { refusal = n; header = no_pd_header }
+
 abbrev pub of_pd_taken : Result PdHeader Refusal → PdDatagram
 of_pd_taken (Ok h) = record { refusal = 0; header = h }
-of_pd_taken (Err r) = record { refusal = number r; header = no_pd_header }
+of_pd_taken (Err r) = no_pd_datagram (number r)
 
 abbrev pub no_md_header : MdHeader
 no_md_header = record { common = no_common; reply_status = pos 0; reply_timeout = 0 }
 
-abbrev pub no_md_datagram : Refusal → MdDatagram
-no_md_datagram r =
+abbrev pub no_md_datagram : ℕ → MdDatagram
+no_md_datagram n =
     record {
-      refusal = number r;
+      refusal = n;
       header = no_md_header;
       session_id = replicate 16 0;
       source_uri = replicate 32 0;
@@ -76,10 +83,14 @@ of_md_taken d (Ok h) =
       source_uri = part 32 48 d;
       destination_uri = part 32 80 d;
     }
-of_md_taken d (Err r) = no_md_datagram r
+of_md_taken d (Err r) = no_md_datagram (number r)
 
 -- ---- telegrams written
 
--- a sending's answer, and the publication after it
+-- an answer, and the publication after it
+abbrev pub sending : Outcome → Publication → Sending
+sending o p = record { refusal = o.refusal; length = o.value; publication = p }
+
+-- a sending's answer
 abbrev pub of_sent : Result ℕ Refusal → Publication → Sending
-of_sent r p = record { refusal = (of_result r).refusal; length = (of_result r).value; publication = p }
+of_sent r p = sending (of_result r) p

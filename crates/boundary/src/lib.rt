@@ -4,10 +4,13 @@
 
 ghost use Rattle.std.specs.Prelude.{◌≡◌, ◌<◌, Err, IfOk};
 ghost use Rattle.md.specs.Md.{take_md};
-ghost use Rattle.session_table.specs.Calls.{heard};
-ghost use Rattle.boundary.specs.Sessions.{md_outcome_of, of_session};
-ghost use Rattle.boundary.specs.Subscriptions.{of_reading};
-ghost use Rattle.boundary.specs.Wire.{of_result, of_done, of_pd_taken, no_md_datagram, of_md_taken, of_sent};
+ghost use Rattle.refusal.specs.Refusal.{number};
+ghost use Rattle.session_table.specs.Table.{freed, opened};
+ghost use Rattle.session_table.specs.Calls.{heard, told};
+ghost use Rattle.boundary.specs.Sessions.{told as md_told, outcome_of, md_outcome_of, of_session};
+ghost use Rattle.boundary.specs.Subscriptions.{nothing_shown, of_reading};
+ghost use Rattle.boundary.specs.Wire.{refused_with, of_result, of_done, no_pd_datagram, of_pd_taken};
+ghost use Rattle.boundary.specs.Wire.{no_md_datagram, of_md_taken, sending, of_sent};
 
 use md::MdHeader;
 use packed::SLOTS;
@@ -28,6 +31,18 @@ pub struct Outcome {
     pub value: usize,
 }
 
+impl Outcome {
+    // Refused with a number, which may be any.
+    pub fn refused(n: u8) -> Self
+        ensures { result ≡ refused_with n }
+    {
+        Self {
+            refusal: n,
+            value: 0,
+        }
+    }
+}
+
 // The slot, the count or the length that was granted, or the refusal's number.
 impl From<Result<usize, Refusal>> for Outcome {
     ghost from_gives = { λ r o. o ≡ of_result r };
@@ -35,10 +50,7 @@ impl From<Result<usize, Refusal>> for Outcome {
     fn from(r: Result<usize, Refusal>) -> Self {
         match r {
             Ok(value) => Self { refusal: 0, value },
-            Err(e) => Self {
-                refusal: e.into(),
-                value: 0,
-            },
+            Err(e) => Self::refused(e.into()),
         }
     }
 }
@@ -49,6 +61,26 @@ impl From<Result<(), Refusal>> for Outcome {
 
     fn from(r: Result<(), Refusal>) -> Self {
         r.map(|()| 0).into()
+    }
+}
+
+// The slot of the listener that heard a notification, or of the session that a telegram reached; or the refusal's
+// number.
+impl From<Result<Arrived, MdRefusal>> for Outcome {
+    ghost from_gives = { λ r o. o ≡ outcome_of (heard r) };
+
+    fn from(r: Result<Arrived, MdRefusal>) -> Self {
+        match r {
+            Ok(Arrived::Notified { listener }) => Self {
+                refusal: 0,
+                value: listener,
+            },
+            Ok(Arrived::Requested { session, .. } | Arrived::Taken { session, .. }) => Self {
+                refusal: 0,
+                value: session,
+            },
+            Err(e) => Self::refused(e.into()),
+        }
     }
 }
 
@@ -86,6 +118,18 @@ pub struct PdDatagram {
     pub header: PdHeader,
 }
 
+impl PdDatagram {
+    // Refused with a number, which may be any.
+    pub fn refused(n: u8) -> Self
+        ensures { result ≡ no_pd_datagram n }
+    {
+        Self {
+            refusal: n,
+            header: NO_PD_HEADER,
+        }
+    }
+}
+
 // The header of a PD datagram, or the refusal's number.
 impl From<Result<PdHeader, Refusal>> for PdDatagram {
     ghost from_gives = { λ r o. o ≡ of_pd_taken r };
@@ -93,10 +137,7 @@ impl From<Result<PdHeader, Refusal>> for PdDatagram {
     fn from(r: Result<PdHeader, Refusal>) -> Self {
         match r {
             Ok(header) => Self { refusal: 0, header },
-            Err(e) => Self {
-                refusal: e.into(),
-                header: NO_PD_HEADER,
-            },
+            Err(e) => Self::refused(e.into()),
         }
     }
 }
@@ -114,20 +155,27 @@ pub struct MdDatagram {
 
 // An MD datagram that was refused.
 impl From<Refusal> for MdDatagram {
-    ghost from_gives = { λ r o. o ≡ no_md_datagram r };
+    ghost from_gives = { λ r o. o ≡ no_md_datagram (number r) };
 
     fn from(r: Refusal) -> Self {
+        Self::refused(r.into())
+    }
+}
+
+impl MdDatagram {
+    // Refused with a number, which may be any.
+    pub fn refused(n: u8) -> Self
+        ensures { result ≡ no_md_datagram n }
+    {
         Self {
-            refusal: r.into(),
+            refusal: n,
             header: NO_MD_HEADER,
             session_id: [0; 16],
             source_uri: [0; 32],
             destination_uri: [0; 32],
         }
     }
-}
 
-impl MdDatagram {
     // An MD datagram taken apart: its header, identifier and URI fields, or the first refusal of 2 to 6.
     pub fn take(d: &[u8]) -> Self
         ensures { result ≡ of_md_taken d.now (take_md d.now) }
@@ -155,16 +203,22 @@ pub struct Sending {
 }
 
 impl Sending {
-    // How many octets were written, or the refusal's number; and the publication after it.
-    pub fn new(r: Result<usize, Refusal>, publication: Publication) -> Self
-        ensures { result ≡ of_sent r publication }
+    // An answer, whatever number it has, and the publication after it.
+    pub fn of(o: Outcome, publication: Publication) -> Self
+        ensures { result ≡ sending o publication }
     {
-        let o = Outcome::from(r);
         Self {
             refusal: o.refusal,
             length: o.value,
             publication,
         }
+    }
+
+    // How many octets were written, or the refusal's number; and the publication after it.
+    pub fn new(r: Result<usize, Refusal>, publication: Publication) -> Self
+        ensures { result ≡ of_sent r publication }
+    {
+        Self::of(r.into(), publication)
     }
 }
 
@@ -185,17 +239,24 @@ impl From<Refusal> for Shown {
     ghost from_gives = { λ r o. o ≡ of_reading 0 (Err r) };
 
     fn from(r: Refusal) -> Self {
+        Self::refused(r.into())
+    }
+}
+
+impl Shown {
+    // Refused with a number, which may be any.
+    pub fn refused(n: u8) -> Self
+        ensures { result ≡ nothing_shown n }
+    {
         Self {
-            refusal: r.into(),
+            refusal: n,
             state: 0,
             substitute: false,
             start: 0,
             length: 0,
         }
     }
-}
 
-impl Shown {
     // What reading slot k answers: the substitute set, or its part's first octets; or the refusal's number.
     // No `From`, since the slot's number is asked for too.
     #[tactic(auto, unfolding(subscription_table::specs::Slot::slot_octets))]
@@ -243,6 +304,37 @@ impl MdOutcome {
         listener: 0,
         session: 0,
     };
+
+    // Refused with a number and a status, which may be any.
+    pub fn refused(n: u8, status: i32) -> Self
+        ensures { result ≡ md_told 0 n status 0 0 }
+    {
+        let mut o = Self::NOTHING;
+        o.refusal = n;
+        o.status = status;
+        o
+    }
+}
+
+// A call of the user's says nothing of a telegram: its refusal's number, or nothing.
+impl From<Result<(), Refusal>> for MdOutcome {
+    ghost from_gives = { λ r o. o ≡ md_outcome_of (told (λ _. freed) r) };
+
+    fn from(r: Result<(), Refusal>) -> Self {
+        match r {
+            Ok(()) => Self::NOTHING,
+            Err(e) => Self::refused(e.into(), 0),
+        }
+    }
+}
+
+// .. whatever slot it answers.
+impl From<Result<usize, Refusal>> for MdOutcome {
+    ghost from_gives = { λ r o. o ≡ md_outcome_of (told opened r) };
+
+    fn from(r: Result<usize, Refusal>) -> Self {
+        r.map(|_| ()).into()
+    }
 }
 
 // Whom a telegram reached, or the refusal's number with its status.
@@ -268,11 +360,7 @@ impl From<Result<Arrived, MdRefusal>> for MdOutcome {
                 session,
                 ..Self::NOTHING
             },
-            Err(e) => Self {
-                refusal: e.refusal.into(),
-                status: e.status,
-                ..Self::NOTHING
-            },
+            Err(e) => Self::refused(e.refusal.into(), e.status),
         }
     }
 }

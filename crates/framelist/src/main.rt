@@ -2,13 +2,14 @@
 // line on standard output.
 #![tactic(auto)]
 
-ghost use Rattle.std.specs.Prelude.{◌≤◌, length};
+ghost use Rattle.std.specs.Prelude.{◌≡◌, ◌≤◌, length};
 
 use answer::Room;
 use line::input::{self, Program};
 use line::output;
 use listing::{Listing, Outcome};
 use std::io::{self, Stdout};
+use topography::TopoCounts;
 
 // The longest line of the form: sender, destination, time and their spaces, and 2,944 digits.
 const LINE: usize = 2_979;
@@ -52,8 +53,10 @@ fn write_out(to: Stdout, room: &mut Room, most: usize) -> io::Result<()>
 }
 
 impl<'a> Lister<'a> {
-    // Before line 1.
-    fn begin(to: Stdout, out: &'a mut [u8]) -> Lister<'a> {
+    // Before line 1: no answer waits.
+    fn begin(to: Stdout, out: &'a mut [u8]) -> Lister<'a>
+        ensures { result.room.at ≡ 0 }
+    {
         Lister {
             to,
             stage: Stage::Head,
@@ -68,10 +71,17 @@ impl<'a> Lister<'a> {
         self.room.text(b"bad start\n");
     }
 
+    // Frames follow; the answers that wait still do.
+    fn start(&mut self, local: TopoCounts)
+        ensures { self.new.room.at ≡ self.old.room.at }
+    {
+        self.stage = Stage::Frames(Listing::begin(local));
+    }
+
     // Line 1 gives the local counters.
     fn take_head(&mut self, s: &[u8]) {
         if let Some(local) = capture::read_head(s) {
-            self.stage = Stage::Frames(Listing::begin(local));
+            self.start(local);
         } else {
             self.stage = Stage::Over;
             self.say_bad_start();

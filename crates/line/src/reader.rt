@@ -1,5 +1,5 @@
 // The fields of a line read one after the other. Where the line has another form a field is nothing.
-ghost use Rattle.std.specs.Prelude.{◌≡◌, List, ℕ, false, true, cond, ◌+◌, ◌*◌, ◌≤◌, length, drop};
+ghost use Rattle.std.specs.Prelude.{◌≡◌, List, ℕ, false, true, cond, ◌+◌, ◌*◌, ◌<◌, ◌≤◌, length, drop};
 ghost use Rattle.std.specs.Prelude.{MatchOption, IfSome, Some, None};
 ghost use Rattle.std.specs.Counts.{IsPrefixLen};
 ghost use Rattle.octets.specs.Octets.{part};
@@ -29,6 +29,14 @@ impl<'a> Fields<'a> {
         Fields {
             rest: line.get(n..).unwrap_or(&[]),
         }
+    }
+
+    // What stands behind n octets of a line; nothing where it has fewer, and no field stands there, nor its end.
+    pub fn after(line: &'a [u8], n: usize) -> Option<Fields<'a>>
+        ensures { MatchOption result (length line.now < n) (λ f. (n ≤ length line.now) × (f ≡ drop n line.now)) }
+    {
+        let (_, rest) = line.split_at_checked(n)?;
+        Some(Fields { rest })
     }
 
     // The n digits of a field: a space stands before them.
@@ -82,12 +90,22 @@ impl<'a> Fields<'a> {
         Some(words)
     }
 
+    // A field of as many octets as the target has. A line of another form leaves the target as it was.
+    pub fn octets(&mut self, target: &mut [u8]) -> Option<()>
+        ensures reads { Reads (2 * length target.old) (λ _. tt) self.old result self.new }
+        ensures target_after { target.new ≡ cond (has_digits self.old (2 * length target.old))
+            (octets_of (part (2 * length target.old) 1 self.old)) target.old }
+    {
+        hexadecimal::decode(self.digits(2 * target.len())?, target);
+        Some(())
+    }
+
     // A field of N octets.
     pub fn array<const N: usize>(&mut self) -> Option<[u8; N]>
         ensures { Reads (2 * N) octets_of self.old result self.new }
     {
         let mut octets = [0; N];
-        hexadecimal::decode(self.digits(2 * octets.len())?, &mut octets);
+        self.octets(&mut octets)?;
         Some(octets)
     }
 

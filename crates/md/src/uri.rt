@@ -1,6 +1,6 @@
 // URI fields: sound, empty, compared up to the first zero octet.
-ghost use Rattle.std.specs.Prelude.{◌≡◌, ◌==◌, position};
-ghost use Rattle.md.specs.Uri.{text, same_uri, sound, empty};
+ghost use Rattle.std.specs.Prelude.{◌≡◌};
+ghost use Rattle.md.specs.Uri.{same_uri, sound, empty};
 
 // A field has a zero octet; else refusal 20.
 pub fn is_sound(u: &[u8]) -> bool
@@ -16,26 +16,22 @@ pub fn is_empty(u: &[u8]) -> bool
     u.is_empty() || u[0] == 0
 }
 
-// The place of a field's first zero octet.
-fn end(u: &[u8]) -> Option<usize>
-    ensures { result ≡ position (λ x. x == 0) u.now }
-{
-    u.iter().position(|x| *x == 0)
-}
-
-// A field's URI: its octets before the first zero.
-fn text(u: &[u8]) -> &[u8]
-    ensures { result.now ≡ text u.now }
-{
-    match end(u) {
-        Some(n) => &u[..n],
-        None => u,
-    }
-}
-
-// Two fields bear the same URI, each up to its first zero octet; `==` would look at the octets behind it too.
+// Two fields bear the same URI, each up to its first zero octet; `==` would look at the octets behind it too. Both are
+// gone through side by side, no further than they tell: most URIs differ early.
 pub fn are_same(a: &[u8], b: &[u8]) -> bool
     ensures { result ≡ same_uri a.now b.now }
 {
-    text(a) == text(b)
+    let (mut u, mut v) = (a, b);
+    // Goes over what is left of both: behind a zip nothing is left to look at.
+    while let (Some((x, s)), Some((y, t))) = (u.split_first(), v.split_first()) {
+        if x != y {
+            return false;
+        }
+        if *x == 0 {
+            return true;
+        }
+        u = s;
+        v = t;
+    }
+    is_empty(u) && is_empty(v)
 }

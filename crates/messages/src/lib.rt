@@ -1,7 +1,7 @@
 // An arriving MD datagram, over the octets of listeners and sessions.
 #![tactic(auto)]
 
-ghost use Rattle.std.specs.Prelude.{◌≡◌, ◌&&◌};
+ghost use Rattle.std.specs.Prelude.{◌≡◌, ◌&&◌, MatchResult};
 ghost use Rattle.refusal.specs.Refusal.{first_of, answer};
 ghost use Rattle.md.specs.Uri.{sound};
 ghost use Rattle.md.specs.Md.{header_of, source_uri_of, destination_uri_of};
@@ -12,7 +12,7 @@ ghost use Rattle.session_table.specs.Table.{md_checks, telegram, hearing, notify
 ghost use Rattle.session_table.specs.Calls.{heard};
 ghost use Rattle.packed.specs.Packed.{tables_of};
 ghost use Rattle.packed_slots.specs.Calls.{Follows};
-ghost use Rattle.messages.specs.Arriving.{heard_by, outcome_in, Gives};
+ghost use Rattle.messages.specs.Arriving.{heard_by, Gives};
 
 use arrival::Arrival;
 use md::MdHeader;
@@ -178,13 +178,14 @@ pub fn arrive(octets: &mut [u8; OCTETS], a: Arrival, datagram: &[u8]) -> Result<
     m.follow(octets)
 }
 
-// The outcome that an answer counts as, of any call: the refusal's number, 0 for whatever was granted.
+// The outcome that an answer counts as, of any call: the refusal's number, 0 for whatever was granted. A refusal may be
+// an `MdRefusal`, a `Refusal`, or any number.
 // A number, as `Statistics::record` takes it, and no `From`: it leaves out status and slots, and no type says outcome.
-pub fn outcome_of<T: Drop>(answer: Result<T, MdRefusal>) -> u8
-    ensures { result ≡ outcome_in answer }
+pub fn outcome_of<T: Drop, E: Into<u8>>(answer: Result<T, E>) -> u8
+    ensures { MatchResult answer (λ _. result ≡ 0) (λ e. E.converts e result) }
 {
     match answer {
         Ok(_) => 0,
-        Err(e) => u8::from(e.refusal),
+        Err(e) => e.into(),
     }
 }

@@ -14,13 +14,24 @@ pub fn array<const N: usize>(s: &[u8], k: usize) -> [u8; N]
     a
 }
 
+// source written over a target of its length. Octet by octet: `copy_from_slice` asks for the C library's memmove, which
+// a host's C library need not have for this one.
+fn copy_whole(target: &mut [u8], source: &[u8])
+    requires { length target.old ≡ length source.now }
+    ensures { target.new ≡ source.now }
+{
+    for i in 0..source.len() {
+        target[i] = source[i];
+    }
+}
+
 // source written into target at k.
-// Not over the part alone, tried in `md::MdFields`: each of nine calls would need a law from std's part to `put`.
+// Not over the part alone, tried in `md::MdFields`: each call would need a law from the part to `put`.
 pub fn copy_into(target: &mut [u8], k: usize, source: &[u8])
     requires { k + length source.now ≤ length target.old }
     ensures { target.new ≡ put k source.now target.old }
 {
-    target[k..k + source.len()].copy_from_slice(source);
+    copy_whole(&mut target[k..k + source.len()], source);
 }
 
 // n zeros written into target at k, a place beside the target as in `copy_into`: both callers promise a `put`.

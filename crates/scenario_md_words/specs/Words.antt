@@ -46,6 +46,10 @@ status_words (table.refused r status) = number 8 (unsigned status)
 abbrev pub heard_words : Answer → List (List ℕ)
 heard_words x = answer_words x ++ status_words x
 
+-- a refusal's number and its status, which may be any
+abbrev pub refused_words : ℕ → ℤ → List (List ℕ)
+refused_words n status = refused n ++ number 8 (unsigned status)
+
 -- `used ID STATE START(16) TIMEOUT(8)`
 abbrev pub used_words : List ℕ → List ℕ → Timing → List (List ℕ)
 used_words id state t = word "used" ++ octets id ++ spaced state ++ number 16 t.start ++ number 8 t.timeout

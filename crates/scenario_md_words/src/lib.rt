@@ -1,12 +1,14 @@
 // What the calls over listeners and sessions answer, in words.
 #![tactic(auto)]
 
+ghost use Rattle.std.specs.Prelude.{◌≡◌};
 ghost use Rattle.answer.specs.Lent.{Fills};
-ghost use Rattle.session_table.specs.Calls.{heard};
+ghost use Rattle.session_table.specs.Calls.{arrived};
 ghost use Rattle.answer.specs.Answer.{number};
 ghost use Rattle.octets.specs.Octets.{unsigned};
-ghost use Rattle.session_table.specs.Table.{requested, taken, refused, codes as codes_told};
-ghost use Rattle.scenario_md_words.specs.Words.{answer_words, heard_words, used_words, record_words, slot_words};
+ghost use Rattle.session_table.specs.Table.{requested, taken, codes as codes_told};
+ghost use Rattle.scenario_md_words.specs.Words.{answer_words, refused_words, used_words, record_words, slot_words};
+ghost use Rattle.scenario_md_words.specs.Said.{said_of, said_words};
 
 use answer::Room;
 use refusal::Refusal;
@@ -38,23 +40,62 @@ fn put_taken(out: &mut Room, status: i32, session: usize)
     out.decimal(session as u64);
 }
 
-// A refused telegram: its number, and the status for the Me to be sent.
-fn put_refused(out: &mut Room, e: MdRefusal)
-    ensures { Fills (heard_words (refused e.refusal e.status)) out.old out.new }
+// A refusal: its number, and the status for the Me to be sent.
+fn put_refused(out: &mut Room, n: u8, status: i32)
+    ensures { Fills (refused_words n status) out.old out.new }
 {
-    out.refused(e.refusal);
-    put_status(out, e.status);
+    out.refused(n);
+    put_status(out, status);
 }
 
-// The answer to a telegram.
-pub fn put_heard(out: &mut Room, r: Result<Arrived, MdRefusal>)
-    ensures { Fills (heard_words (heard r)) out.old out.new }
+// What a call says, whichever it is: a telegram that was taken, what the user's calls answer, or a refusal, whose number
+// and status may be any. An enum beside the calls' Results, since `put_heard` puts what any of them answers.
+#[derive(Clone, Copy)]
+pub enum Said {
+    Arrived(Arrived),
+    Listening(usize),
+    Opened(usize),
+    Freed,
+    Replied,
+    Confirmed,
+    Refused(u8, i32),
+}
+
+// A telegram says whom it reached, or why it was refused.
+impl From<Result<Arrived, MdRefusal>> for Said {
+    ghost from_gives = { λ r x. x ≡ said_of r };
+
+    fn from(r: Result<Arrived, MdRefusal>) -> Said {
+        match r {
+            Ok(a) => Said::Arrived(a),
+            Err(e) => Said::Refused(e.refusal.into(), e.status),
+        }
+    }
+}
+
+// A telegram that was taken.
+fn put_arrived(out: &mut Room, a: Arrived)
+    ensures { Fills (answer_words (arrived a)) out.old out.new }
 {
-    match r {
-        Ok(Arrived::Notified { listener }) => out.word_of(b"notified", listener),
-        Ok(Arrived::Requested { listener, session }) => put_requested(out, listener, session),
-        Ok(Arrived::Taken { status, session }) => put_taken(out, status, session),
-        Err(e) => put_refused(out, e),
+    match a {
+        Arrived::Notified { listener } => out.word_of(b"notified", listener),
+        Arrived::Requested { listener, session } => put_requested(out, listener, session),
+        Arrived::Taken { status, session } => put_taken(out, status, session),
+    }
+}
+
+// The answer to a telegram, or to any other call.
+pub fn put_heard<A: Into<Said>>(out: &mut Room, answer: A)
+    ensures { (x : Said) × A.converts answer x × Fills (said_words x) out.old out.new }
+{
+    match answer.into() {
+        Said::Arrived(a) => put_arrived(out, a),
+        Said::Listening(k) => out.word_of(b"listener", k),
+        Said::Opened(k) => out.word_of(b"session", k),
+        Said::Freed => out.word(b"freed"),
+        Said::Replied => out.word(b"replied"),
+        Said::Confirmed => out.word(b"confirmed"),
+        Said::Refused(n, status) => put_refused(out, n, status),
     }
 }
 

@@ -23,15 +23,17 @@ lends t store n m e f =
     (ap (λ (j : ℕ). take j t.records) e ∙ take_min t.lent t.records)
     (ap (λ (j : ℕ). take j store) f ∙ take_min t.octets store)
 
-module _ (k : ℕ) (set : List ℕ) {t u : Table} (e : t ≡ u) where
+module _ (k : ℕ) (set : List ℕ) (u : Table) where
   -- a state and octets
-  pub shows : (v : View) {o : List ℕ} → Reads k t.records t.store (Ok v) → o ≡ octets_of (step (read k set) t).answer
+  pub shows : {t : Table} → t ≡ u → (v : View) {o : List ℕ} → Reads k u.records u.store (Ok v)
+      → o ≡ octets_of (step (read k set) t).answer
       → state_words v.state ++ octets o ≡ answer_words (step (read k set) u).answer
-  shows v r d =
-      ap (λ (x : List ℕ). state_words v.state ++ octets x) (d ∙ sym (ap octets_of (r.answers set)))
-      ∙ ap answer_words (r.answers set ∙ ap (λ (x : Table). (step (read k set) x).answer) e)
+  shows e v r d =
+      ap (λ (x : List ℕ). state_words v.state ++ octets x)
+      (d ∙ ap (λ (x : Table). octets_of (step (read k set) x).answer) e ∙ sym (ap octets_of (r.answers set)))
+      ∙ ap answer_words (r.answers set)
 
   -- a refusal
-  pub refuses : (x : Refusal) → Reads k t.records t.store (Err x)
+  pub refuses : (x : Refusal) → Reads k u.records u.store (Err x)
       → refused_words (number x) ≡ answer_words (step (read k set) u).answer
-  refuses x r = ap answer_words (r.answers set ∙ ap (λ (y : Table). (step (read k set) y).answer) e)
+  refuses x r = ap answer_words (r.answers set)

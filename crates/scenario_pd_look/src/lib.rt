@@ -24,11 +24,11 @@ fn put_read(out: &mut Room, t: &Slots, store: &[u8], k: usize, substitute: &[u8]
 {
     let records: &[Subscription] = &t.records;
     let slots = &records[..t.lent.min(records.len())];
-    let store = &store[..t.octets.min(store.len())];
-    match subscriptions::read(slots, store, k) {
+    let lent = &store[..t.octets.min(store.len())];
+    match t.read(store, k) {
         Ok(v) => {
             scenario_pd_words::put_state(out, v.state);
-            out.octets(subscriptions::show(slots, store, k, substitute));
+            out.octets(subscriptions::show(slots, lent, k, substitute));
         }
         Err(r) => out.refused(r),
     }

@@ -1,14 +1,15 @@
 // What the calls over telegrams answer, in words.
 #![tactic(auto)]
 
-ghost use Rattle.std.specs.Prelude.{ℕ, List};
+ghost use Rattle.std.specs.Prelude.{ℕ, List, MatchResult};
+ghost use Rattle.answer.specs.Answer.{refused};
 ghost use Rattle.answer.specs.Lent.{Fills};
-ghost use Rattle.scenario_wire_words.specs.Words.{common_words, pd_words, session_words, md_words, written_words};
+ghost use Rattle.line.specs.Line.{target_words};
+ghost use Rattle.scenario_wire_words.specs.Words.{common_words, pd_words, session_words, md_words};
 
 use answer::Room;
 use md::MdHeader;
 use pd::PdHeader;
-use refusal::Refusal;
 use telegram::{Common, Header};
 
 // SEQ VERSION TYPE COMID ETB OPTRN LENGTH
@@ -67,9 +68,15 @@ impl Shown for MdHeader {
     }
 }
 
-// How many octets were written and the whole target, or the refusal.
-pub fn put_written(out: &mut Room, done: &[u8], written: Result<usize, Refusal>, target: &[u8])
-    ensures { Fills (written_words done.now written target.now) out.old out.new }
+// How many octets were written and the whole target, or the refusal's number, which may be any.
+pub fn put_written<R: Into<u8>>(
+    out: &mut Room,
+    done: &[u8],
+    written: Result<usize, R>,
+    target: &[u8],
+)
+    ensures { MatchResult written (λ n. Fills (target_words done.now n target.now) out.old out.new)
+        (λ r. (number : ℕ) × R.converts r number × Fills (refused number) out.old out.new) }
 {
     match written {
         Ok(n) => {

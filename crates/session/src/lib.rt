@@ -8,15 +8,16 @@ ghost use Rattle.session.specs.Session.{free_session, is_free, owes_confirm, is_
 use address::SenderRange;
 use timing::Timing;
 
-// The types of message data: notification, request, reply without and with a confirm asked for, confirm, error.
+// The types of message data: notification, request, reply without and with a confirm asked for, confirm, error. Each
+// has the number that a header says.
 #[derive(Clone, Copy, Debug, PartialEq, Eq)]
 pub enum Kind {
-    Mn,
-    Mr,
-    Mp,
-    Mq,
-    Mc,
-    Me,
+    Mn = 0x4D6E,
+    Mr = 0x4D72,
+    Mp = 0x4D70,
+    Mq = 0x4D71,
+    Mc = 0x4D63,
+    Me = 0x4D65,
 }
 
 // Checks 2 to 6 let no type in but the six, so any other number is the last.

@@ -2,6 +2,7 @@
 #![tactic(auto)]
 
 ghost use Rattle.std.specs.Prelude.{◌≡◌, pos};
+ghost use Rattle.refusal.specs.Refusal.{number};
 
 use refusal::Refusal;
 
@@ -30,5 +31,14 @@ impl From<Refusal> for MdRefusal {
 
     fn from(refusal: Refusal) -> MdRefusal {
         MdRefusal { refusal, status: 0 }
+    }
+}
+
+// The refusal's number, without the status.
+impl From<MdRefusal> for u8 {
+    ghost from_gives = { λ e n. n ≡ number e.refusal };
+
+    fn from(e: MdRefusal) -> u8 {
+        e.refusal.into()
     }
 }

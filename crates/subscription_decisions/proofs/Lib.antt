@@ -1,3 +1,4 @@
 pub mod Judging
 pub mod Parts
 pub mod Showing
+pub mod Delivering

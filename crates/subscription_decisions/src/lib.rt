@@ -6,7 +6,7 @@ ghost use Rattle.refusal.specs.Refusal.{first_of};
 ghost use Rattle.subscription_table.specs.Slot.{judged};
 ghost use Rattle.subscription_table.specs.Table as table;
 ghost use Rattle.subscription_table.specs.Table.{delivered_to, fits};
-ghost use Rattle.subscription_decisions.specs.Calls.{size_checks, judged_as, told};
+ghost use Rattle.subscription_decisions.specs.Calls.{Delivers, judged_as, size_checks, told};
 ghost use Rattle.subscription_decisions.specs.Read.{read_by, shown, octets_of};
 
 use arrival::Arrival;
@@ -67,7 +67,7 @@ pub fn judge<'a>(a: Arrival, datagram: &'a [u8]) -> Result<Passed<'a>, Refusal>
 }
 
 // The answer to a telegram: how many slots took it, 9 where some match, 8 where none does.
-pub fn delivered(t: Tally) -> Result<usize, Refusal>
+fn answer_of(t: Tally) -> Result<usize, Refusal>
     ensures { told table.delivered result ≡ delivered_to (ltb 0 t.matched) t.changed }
 {
     if 0 < t.changed {
@@ -76,6 +76,20 @@ pub fn delivered(t: Tally) -> Result<usize, Refusal>
         Err(Refusal::Stale)
     } else {
         Err(Refusal::NoMatch)
+    }
+}
+
+// What a sweep of a telegram answers; or what the sweep was refused with, a `Refusal` or what is made of one, as any
+// number is.
+pub fn delivered<E: From<Refusal>>(swept: Result<Tally, E>) -> Result<usize, E>
+    ensures { Delivers E.from_gives swept result }
+{
+    match swept {
+        Ok(t) => match answer_of(t) {
+            Ok(n) => Ok(n),
+            Err(r) => Err(r.into()),
+        },
+        Err(e) => Err(e),
     }
 }
 

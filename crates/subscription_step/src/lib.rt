@@ -69,7 +69,7 @@ fn hear(h: &Heard, dataset: &[u8], r: &mut Subscription, part: &mut [u8], t: &mu
     let is_taken = dataset.len() <= 1432 && r.is_taken(h);
     t.count(r.is_wanted(h), is_taken);
     if is_taken {
-        part[..dataset.len()].copy_from_slice(dataset);
+        octets::copy_into(part, 0, dataset);
         r.take(h, dataset.len() as u32);
     }
 }

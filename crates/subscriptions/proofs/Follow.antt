@@ -27,6 +27,7 @@ use Rattle.subscription_step.specs.declared.Tally.{Tally}
 use Rattle.subscription_table.proofs.Fitting.{judged-fits}
 use Rattle.subscription_table.proofs.Lent.{fits-means}
 use Rattle.subscription_table.proofs.Stepping.{telegram-steps, clock-steps}
+use Rattle.subscription_decisions.specs.Calls.{delivered_by}
 use Rattle.subscriptions.specs.Sweep.{store_after, tally_after, Sweeps}
 use Rattle.subscriptions.specs.Calls.{Follows}
 use Rattle.std.specs.Prelude.{Ok, Err, Result}
@@ -102,11 +103,7 @@ module _ (p q : Subscription → Bool) (same : (r : Subscription) → p r ≡ q 
 
 -- ---- the calls
 
--- a sweep's answer to a telegram that passed, and to the clock
-abbrev pub arrived : Result Tally Refusal → table.Answer
-arrived (Ok t) = delivered_to (ltb 0 t.matched) t.changed
-arrived (Err r) = table.refused r
-
+-- a sweep's answer to the clock
 abbrev pub checked : Result Tally Refusal → table.Answer
 checked (Ok t) = table.marked t.changed
 checked (Err r) = table.refused r
@@ -118,7 +115,7 @@ takes-is h n k r = rw (le-leb n 1432 k) refl
 
 pub telegram-follows : (a : Arrival) (telegram_octets : List ℕ) (h : Heard) (d : List ℕ) (rs : List Subscription) (st : List ℕ) (s : Result Tally Refusal) (rs' : List Subscription) (st' : List ℕ)
     → judged a telegram_octets ≡ passed h d → Sweeps (Telegram h) d rs st s rs' st'
-    → Follows (telegram a telegram_octets) rs st (arrived s) rs' st'
+    → Follows (telegram a telegram_octets) rs st (delivered_by s) rs' st'
 unfolding step slots
 telegram-follows a o h d rs st s rs' st' e w =
     let f = go (fits (length rs) (length st)) refl in
@@ -129,7 +126,7 @@ telegram-follows a o h d rs st s rs' st' e w =
 
     go : (b : Bool) → fits (length rs) (length st) ≡ b
         → let x = step (telegram a o) (record { records = rs; store = st }) in
-        (arrived (cond b (Ok (tally_after (Telegram h) (length d) rs no_tally)) (Err refusal.Sizes)) ≡ x.answer)
+        (delivered_by (cond b (Ok (tally_after (Telegram h) (length d) rs no_tally)) (Err refusal.Sizes)) ≡ x.answer)
         × (cond b (map (record_after (Telegram h) (length d)) rs) rs ≡ x.after.records)
         × (cond b (store_after (Telegram h) d rs st) st ≡ x.after.store)
     go true f =

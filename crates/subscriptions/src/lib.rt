@@ -137,8 +137,10 @@ impl<'a> Table<'a> {
     {
         self.judge_sizes()?;
         let passed = subscription_decisions::judge(a, datagram)?;
-        let t = self.sweep(&Event::Telegram(passed.heard), passed.dataset)?;
-        subscription_decisions::delivered(t)
+        subscription_decisions::delivered(self.sweep(
+            &Event::Telegram(passed.heard),
+            passed.dataset,
+        ))
     }
 
     // A PD datagram arrives: it is delivered or refused with 1 to 9, and the statistics count it.

@@ -4,6 +4,7 @@ use Rattle.line.specs.Line.{target_of}
 use Rattle.line.proofs.Fields.{number_none, number_some, read_value, last_none, last_some, target_is, unanswered}
 use Rattle.answer.proofs.Rooms.{filled_as}
 use Rattle.answer.proofs.Said.{answered_by}
+use Rattle.scenario_wire_words.proofs.Written.{written_fills}
 use Rattle.scenario_data.specs.Data.{convert_answer, convert_words}
 use Rattle.scenario_data.proofs.Described.{written_as}
 use Rattle.scenario_data.proofs.convert.Goals as goal
@@ -44,4 +45,4 @@ returns c =
     (written_as a.form a.done.now a.run.now c.in_ok-id.id t d k.result k.new.target k.ensures
     ∙ ap₂ (λ (i : ℕ) (t : List ℕ). convert_words a.form a.done.now a.run.now i t d) (read_value c.in_ok-id.ensures)
     (e ∙ ap target_of (c.from.ensures ∙ room)))
-    c.put_written.ensures)
+    (written_fills _ _ _ c.put_written.ensures))

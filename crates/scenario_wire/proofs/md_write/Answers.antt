@@ -13,6 +13,7 @@ use Rattle.line.proofs.Fields.{number_none, number_some, octets_none, octets_som
 use Rattle.line.proofs.Fields.{last_none, last_some, unanswered}
 use Rattle.answer.proofs.Rooms.{filled_as}
 use Rattle.answer.proofs.Said.{answered_by}
+use Rattle.scenario_wire_words.proofs.Written.{written_fills}
 use Rattle.scenario_wire.specs.Wire.{mdwrite_answer}
 use Rattle.scenario_wire.proofs.Wired.{found_none, found_some, target_read, md_words_of, md_wrote}
 use Rattle.scenario_wire.proofs.md_write.Goals as goal
@@ -123,4 +124,4 @@ returns c =
     (to_z-of_z {w = w32} (search rules) ∙ c.to_signed.ensures ∙ ap signed (read_value c.in_ok-status.ensures))
     (read_value c.in_ok-reply_timeout.ensures)
     (target_read _ c.from.ensures c.fresh_target-target.ensures.value_2 (read_value c.in_ok-room.ensures)))
-    c.put_written.ensures)
+    (written_fills _ _ _ c.put_written.ensures))

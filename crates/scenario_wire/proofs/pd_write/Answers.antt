@@ -6,6 +6,7 @@ use lib.ListN.{take}
 use Rattle.line.proofs.Fields.{number_none, number_some, read_value, last_none, last_some, unanswered}
 use Rattle.answer.proofs.Rooms.{filled_as}
 use Rattle.answer.proofs.Said.{answered_by}
+use Rattle.scenario_wire_words.proofs.Written.{written_fills}
 use Rattle.scenario_wire.specs.Wire.{pdwrite_answer, pd_wrote_words}
 use Rattle.scenario_wire.proofs.Wired.{found_none, found_some, target_read, pd_wrote}
 use Rattle.scenario_wire.proofs.pd_write.Goals as goal
@@ -55,4 +56,4 @@ returns c =
     (pd_wrote h t d c.write_pd-written.result c.write_pd-written.new.target c.write_pd-written.ensures
     ∙ ap (λ (b : List ℕ). pd_wrote_words h b d)
     (target_read _ c.from.ensures c.fresh_target-target.ensures.value_2 (read_value c.in_ok-room.ensures)))
-    c.put_written.ensures)
+    (written_fills _ _ _ c.put_written.ensures))

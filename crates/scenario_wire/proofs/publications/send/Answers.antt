@@ -8,6 +8,7 @@ use Rattle.std.specs.Prelude.{Option}
 use Rattle.publication.specs.declared.Publication.{Publication}
 use Rattle.line.proofs.Fields.{number_none, number_some, read_value, last_none, last_some}
 use Rattle.answer.proofs.Rooms.{filled_as}
+use Rattle.scenario_wire_words.proofs.Written.{written_fills}
 use Rattle.scenario_wire.specs.Publications.{sent_said, send_said}
 use Rattle.scenario_wire.proofs.Wired.{publishes_none, publishes_some, target_read, sent_words, sent_held}
 use Rattle.scenario_wire.proofs.publications.send.Goals as goal
@@ -56,5 +57,5 @@ returns c =
     ∙ sym
     (ap₂ (λ (x : ℕ) (b : List ℕ). some (sent_said p x b d)) (read_value c.in_ok-time.ensures)
     (target_read _ c.from.ensures c.fresh_target-target.ensures.value_2 (read_value c.in_ok-room.ensures))))
-    (filled_as _ (sent_words p s.new.self time t d s.result s.new.target s.ensures) c.put_written.ensures)
+    (filled_as _ (sent_words p s.new.self time t d s.result s.new.target s.ensures) (written_fills _ _ _ c.put_written.ensures))
     (sent_held p s.new.self time t d s.result s.new.target s.ensures)

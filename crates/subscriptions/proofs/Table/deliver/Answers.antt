@@ -1,5 +1,6 @@
 -- Sizes, then the first refusal of 2 to 7, then every slot.
 use Rattle.std.proofs.Common.{refl, sym, ◌∙◌}
+use Rattle.subscription_decisions.proofs.Delivering.{delivers_is}
 use Rattle.subscriptions.proofs.Sizes.{fitting, unfit-follows, told-err}
 use Rattle.subscriptions.proofs.Follow.{refused-telegram-follows, telegram-follows}
 use Rattle.subscriptions.proofs.Table.deliver.Goals as goal
@@ -25,9 +26,9 @@ returns-in_err-passed c =
 
 pub returns : goal.returns
 returns c =
-    let e = c.in_ok-t.ensures in
+    let e = c.sweep.ensures in
     record {
       slots = e.lends.slots;
       store = e.lends.store;
-      follows = rw c.delivered.ensures (telegram-follows _ _ _ _ _ _ _ _ _ (sym c.in_ok-passed.ensures) e.sweeps);
+      follows = rw (delivers_is _ _ c.delivered.ensures) (telegram-follows _ _ _ _ _ _ _ _ _ (sym c.in_ok-passed.ensures) e.sweeps);
     }

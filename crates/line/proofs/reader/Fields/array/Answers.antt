@@ -1,23 +1,36 @@
--- The octets fill the array.
-use Rattle.std.proofs.Common.{◌≡◌, ℕ, List, ◌*◌, length, replicate, Some, ap, ◌∙◌, sym, arith}
-use Rattle.octets.specs.Octets.{part, put}
+-- The octets of a field fill an array as they fill any target of its length.
+use Rattle.std.proofs.Common.{◌≡◌, ℕ, List, true, false, cond, ◌+◌, ◌*◌, drop, replicate, Some, subst, ap, ◌∙◌, refl, rules}
+use Rattle.octets.specs.Octets.{part}
 use lib.ListN.{length-replicate}
-use Rattle.octets.proofs.Parts.{part_length}
 use Rattle.hexadecimal.specs.Hex.{octets_of}
-use Rattle.hexadecimal.proofs.Digits.{octets-length}
-use Rattle.line.proofs.Reading.{digits_within, put_whole}
+use Rattle.line.specs.Line.{has_digits}
+use Rattle.line.proofs.Reading.{read_none, read_some}
 use Rattle.line.proofs.reader.Fields.array.Goals as goal
+
+pub returns-in_err-octets : goal.returns-in_err-octets
+returns-in_err-octets g c =
+    let s : List ℕ = c.args.self.now in
+    let r = c.in_err-octets.ensures.reads in
+    let long = length-replicate {A = ℕ} g.row.N 0 in
+    let h : has_digits s (2 * g.row.N) ≡ false =
+    subst (λ (n : ℕ). has_digits s (2 * n) ≡ false) long (read_none r) in
+    record {
+      answer = rw h (search rules);
+      rest = subst (λ (n : ℕ). c.octets.new.self ≡ cond (has_digits s (2 * n)) (drop (2 * n + 1) s) s) long r.rest;
+    }
 
 pub returns : goal.returns
 returns g c =
     let s : List ℕ = c.args.self.now in
-    let n : ℕ = 2 * g.row.N in
-    let d = c.in_ok-digits.ensures.digits in
-    let l : length (octets_of (part n 1 s)) ≡ g.row.N =
-    octets-length (part n 1 s) ∙ omega (arith, part_length n 1 s (omega (arith, digits_within s n d.0))) in
+    let e = c.in_ok-octets.ensures in
+    let long = length-replicate {A = ℕ} g.row.N 0 in
+    let h : has_digits s (2 * g.row.N) ≡ true =
+    subst (λ (n : ℕ). has_digits s (2 * n) ≡ true) long (read_some e.reads).0 in
+    let target : c.octets.new.target
+    ≡ cond (has_digits s (2 * g.row.N)) (octets_of (part (2 * g.row.N) 1 s)) (replicate g.row.N 0) =
+    subst (λ (n : ℕ). c.octets.new.target
+    ≡ cond (has_digits s (2 * n)) (octets_of (part (2 * n) 1 s)) (replicate g.row.N 0)) long e.target_after in
     record {
-      answer = rw d.0 (ap Some (c.decode.ensures
-          ∙ ap (λ (x : List ℕ). put 0 (octets_of x) (replicate g.row.N 0)) d.1
-          ∙ put_whole (octets_of (part n 1 s)) (replicate g.row.N 0) (l ∙ sym (length-replicate {A = ℕ} g.row.N 0))));
-      rest = c.digits.ensures.rest;
+      answer = rw h (ap Some (target ∙ rw h refl));
+      rest = subst (λ (n : ℕ). c.octets.new.self ≡ cond (has_digits s (2 * n)) (drop (2 * n + 1) s) s) long e.reads.rest;
     }
